@@ -40,8 +40,8 @@ use std::alloc::Global;
 /// expression over sets that named permissions would be out of memory too: there is none, since no statement of this kind is read so.
 pub fn members<S: Space>(
     alloc: Global,
-    known: &Known,
     instances: &Instances,
+    known: &Known,
     names: &[Bytes],
 ) -> Result<Members, Failure>
     requires namespaces { known.now.lookup.namespaces.now ≡ namespaces_in instances.now }
@@ -54,8 +54,8 @@ pub fn members<S: Space>(
     let space = S::kinds();
     members_of(
         alloc,
-        known,
         instances,
+        known,
         names,
         &space,
         S::sign(),
@@ -66,8 +66,8 @@ pub fn members<S: Space>(
 /// The same for a name space with these kinds, sign and limit.
 fn members_of(
     alloc: Global,
-    known: &Known,
     instances: &Instances,
+    known: &Known,
     names: &[Bytes],
     space: &SpaceKinds,
     sign: Sign,

@@ -32,8 +32,8 @@ pub struct Told<'f> {
 /// search by halving. Error: out of memory.
 pub fn push_declared(
     alloc: Global,
-    faults: &mut Vec<Fault>,
     instances: &Instances,
+    faults: &mut Vec<Fault>,
     lookup: &Lookup,
     told: &Told,
     code: FaultCode,
@@ -45,15 +45,15 @@ pub fn push_declared(
         ↔ (Contains faults.old.items f ⊎ IsToldIn lookup.now.namespaces.now lookup.now.names.now (items_in instances.now) (is_in lookup.now.enabled.now) told.now.kind code told.now.flags.now f)) }
 {
     for at in 0..instances.len() {
-        push_declared_at(alloc, faults, instances, lookup, told, code, at)?;
+        push_declared_at(alloc, instances, faults, lookup, told, code, at)?;
     }
     Ok(())
 }
 
 fn push_declared_at(
     alloc: Global,
-    faults: &mut Vec<Fault>,
     instances: &Instances,
+    faults: &mut Vec<Fault>,
     lookup: &Lookup,
     told: &Told,
     code: FaultCode,

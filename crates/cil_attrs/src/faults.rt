@@ -59,11 +59,11 @@ pub fn check_sets(
 {
     let mut faults = Vec::new(alloc);
     push_many(alloc, &mut faults, names, limit)?;
-    push_targets(alloc, &mut faults, instances, known, space, sign)?;
+    push_targets(alloc, instances, &mut faults, known, space, sign)?;
     push_circular(
         alloc,
-        &mut faults,
         instances,
+        &mut faults,
         &known.lookup,
         sign,
         space.aliases,
@@ -72,8 +72,8 @@ pub fn check_sets(
     )?;
     push_circular(
         alloc,
-        &mut faults,
         instances,
+        &mut faults,
         &known.lookup,
         sign,
         space.attributes,
@@ -109,8 +109,8 @@ fn push_many(
 /// Reports aliases that stand for nothing, and those that stand for two different things.
 fn push_targets(
     alloc: Global,
-    faults: &mut Vec<Fault>,
     instances: &Instances,
+    faults: &mut Vec<Fault>,
     known: &Known,
     space: &SpaceKinds,
     sign: Sign,
@@ -127,14 +127,14 @@ fn push_targets(
     let Some(aliases) = space.aliases else {
         return Ok(());
     };
-    push_alias_targets(alloc, faults, instances, known, space, sign, aliases)?;
+    push_alias_targets(alloc, instances, faults, known, space, sign, aliases)?;
     Ok(())
 }
 
 fn push_alias_targets(
     alloc: Global,
-    faults: &mut Vec<Fault>,
     instances: &Instances,
+    faults: &mut Vec<Fault>,
     known: &Known,
     space: &SpaceKinds,
     sign: Sign,
@@ -154,22 +154,22 @@ fn push_alias_targets(
     let lasts = lasts_of(alloc, known.lookup.names.entries().len(), steps.as_slice())?;
     push_open(
         alloc,
-        faults,
         instances,
+        faults,
         &known.lookup,
         sign,
         aliases.kind,
         lasts.as_slice(),
     )?;
-    push_twice(alloc, faults, instances, steps.as_slice(), lasts.as_slice())?;
+    push_twice(alloc, instances, faults, steps.as_slice(), lasts.as_slice())?;
     Ok(())
 }
 
 /// Reports declared aliases without a step.
 fn push_open(
     alloc: Global,
-    faults: &mut Vec<Fault>,
     instances: &Instances,
+    faults: &mut Vec<Fault>,
     lookup: &Lookup,
     sign: Sign,
     kind: Kind,
@@ -190,8 +190,8 @@ fn push_open(
     };
     push_declared(
         alloc,
-        faults,
         instances,
+        faults,
         lookup,
         &told,
         FaultCode::AliasOpen,
@@ -202,8 +202,8 @@ fn push_open(
 /// Reports each statement that says a target of an alias that has two.
 fn push_twice(
     alloc: Global,
-    faults: &mut Vec<Fault>,
     instances: &Instances,
+    faults: &mut Vec<Fault>,
     steps: &[Step],
     lasts: &[Option<usize>],
 ) -> Result<(), NoMemory>
@@ -212,14 +212,14 @@ fn push_twice(
     ensures { OnOk result ((f : AFault) → Contains faults.new.items f ↔ (Contains faults.old.items f ⊎ IsToldAmong instances.now (HasOther steps.now lasts.now) steps.now f)) }
 {
     let flags = twice_flags(alloc, steps, lasts)?;
-    push_flagged(alloc, faults, instances, steps, flags.as_slice())?;
+    push_flagged(alloc, instances, faults, steps, flags.as_slice())?;
     Ok(())
 }
 
 fn push_flagged(
     alloc: Global,
-    faults: &mut Vec<Fault>,
     instances: &Instances,
+    faults: &mut Vec<Fault>,
     steps: &[Step],
     flags: &[bool],
 ) -> Result<(), NoMemory>
@@ -227,15 +227,15 @@ fn push_flagged(
     ensures { OnOk result ((f : AFault) → Contains faults.new.items f ↔ (Contains faults.old.items f ⊎ IsToldAmong instances.now (IsFlagged flags.now) steps.now f)) }
 {
     for step in steps {
-        push_step(alloc, faults, instances, step, flags)?;
+        push_step(alloc, instances, faults, step, flags)?;
     }
     Ok(())
 }
 
 fn push_step(
     alloc: Global,
-    faults: &mut Vec<Fault>,
     instances: &Instances,
+    faults: &mut Vec<Fault>,
     step: &Step,
     flags: &[bool],
 ) -> Result<(), NoMemory>
@@ -265,8 +265,8 @@ fn push_step(
 /// Reports declared sets of a kind that depend on themselves.
 fn push_circular(
     alloc: Global,
-    faults: &mut Vec<Fault>,
     instances: &Instances,
+    faults: &mut Vec<Fault>,
     lookup: &Lookup,
     sign: Sign,
     sets: Option<SetKind>,
@@ -288,6 +288,6 @@ fn push_circular(
         sign,
         flags: circular,
     };
-    push_declared(alloc, faults, instances, lookup, &told, code)?;
+    push_declared(alloc, instances, faults, lookup, &told, code)?;
     Ok(())
 }

@@ -27,11 +27,11 @@ use std::alloc::Global;
 /// different commons, at each statement that joins one to them, and more classes than a policy may have; or out of memory.
 pub fn classes(
     alloc: Global,
+    instances: &Instances,
     lookup: &Lookup,
     numbering: &Numbering,
     permissions: &[Vec<Bytes>],
     shared: &[Shared],
-    instances: &Instances,
 ) -> Result<Classes, Failure>
     requires namespaces { lookup.now.namespaces.now ≡ namespaces_in instances.now }
     requires entries { AreEntries lookup.now.namespaces.now (items_in instances.now) lookup.now.names.now }
@@ -43,7 +43,7 @@ pub fn classes(
         (ClassFault (is_in lookup.now.enabled.now) (items_in instances.now)) result }
 {
     let names = numbering.sections.classes.as_slice();
-    check_classes(alloc, lookup, permissions, shared, instances, names)?;
+    check_classes(alloc, instances, lookup, permissions, shared, names)?;
     let rows = class_rows(alloc, lookup, numbering, permissions)?;
     Ok(Classes { rows })
 }

@@ -60,8 +60,8 @@ pub fn class_word<'a>(instances: &Instances<'_, '_, 'a>, at: usize) -> Option<Wr
 /// The class and the common that the statement at a place joins, if it is a classcommon statement whose words name both.
 pub fn joined_at(
     alloc: Global,
-    names: &Names,
     instances: &Instances,
+    names: &Names,
     at: usize,
 ) -> Result<Option<Shared>, NoMemory>
     requires entries { AreEntries (namespaces_in instances.now) (items_in instances.now) names.now }
@@ -69,7 +69,7 @@ pub fn joined_at(
     ensures { IfOk result (IsJoinedAt instances.now names.now at) }
 {
     let mut scope = ScopeList::new(alloc);
-    shared_at(alloc, names, instances, at, &mut scope)
+    shared_at(alloc, instances, names, at, &mut scope)
 }
 
 /// For each entry whether it is that of a class to which two commons are joined. Pairs of one class are neighbours.

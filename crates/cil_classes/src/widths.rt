@@ -29,10 +29,10 @@ const MOST_PERMISSIONS: usize = 32;
 /// Errors: the faults, or out of memory.
 pub fn check_classes(
     alloc: Global,
+    instances: &Instances,
     lookup: &Lookup,
     permissions: &[Vec<Bytes>],
     shared: &[Shared],
-    instances: &Instances,
     names: &[Bytes],
 ) -> Result<(), Failure>
     requires asked { AreAsked instances.now lookup.now permissions.now }
@@ -40,7 +40,7 @@ pub fn check_classes(
     requires names { Lists text_cmp (IsClassName (is_in lookup.now.enabled.now) (items_in instances.now)) names.now }
     ensures { Answers (λ done. Unit {0}) (ClassFault (is_in lookup.now.enabled.now) (items_in instances.now)) result }
 {
-    let mut faults = wrong_classes(alloc, lookup, permissions, shared, instances)?;
+    let mut faults = wrong_classes(alloc, instances, lookup, permissions, shared)?;
     push_many(alloc, &mut faults, names)?;
     refuse(faults)
 }
@@ -48,10 +48,10 @@ pub fn check_classes(
 /// Enabled classes with too many permissions, and classes to which two commons are joined.
 fn wrong_classes(
     alloc: Global,
+    instances: &Instances,
     lookup: &Lookup,
     permissions: &[Vec<Bytes>],
     shared: &[Shared],
-    instances: &Instances,
 ) -> Result<Vec<Fault>, NoMemory>
     requires asked { AreAsked instances.now lookup.now permissions.now }
     requires shared { AreShared (namespaces_in instances.now) lookup.now.names.now (items_in instances.now) shared.now }
@@ -60,16 +60,16 @@ fn wrong_classes(
     // What is known of the numbers of namespaces.
     lookup.namespaces.are_namespaces();
     let twice = flags_of_two(alloc, lookup.names.entries().len(), shared)?;
-    wrong_among(alloc, lookup, permissions, twice.as_slice(), instances)
+    wrong_among(alloc, instances, lookup, permissions, twice.as_slice())
 }
 
 /// The same, where these are the flags of classes to which two commons are joined.
 fn wrong_among(
     alloc: Global,
+    instances: &Instances,
     lookup: &Lookup,
     permissions: &[Vec<Bytes>],
     twice: &[bool],
-    instances: &Instances,
 ) -> Result<Vec<Fault>, NoMemory>
     requires asked { AreAsked instances.now lookup.now permissions.now }
     requires twice { AreTwice instances.now lookup.now.names.now twice.now }
@@ -79,11 +79,11 @@ fn wrong_among(
     for at in 0..instances.len() {
         push_wrong(
             alloc,
+            instances,
             &mut faults,
             lookup,
             permissions,
             twice,
-            instances,
             at,
         )?;
     }
@@ -93,11 +93,11 @@ fn wrong_among(
 /// Reports what is wrong with the class of the statement at a place.
 fn push_wrong(
     alloc: Global,
+    instances: &Instances,
     faults: &mut Vec<Fault>,
     lookup: &Lookup,
     permissions: &[Vec<Bytes>],
     twice: &[bool],
-    instances: &Instances,
     at: usize,
 ) -> Result<(), NoMemory>
     requires asked { AreAsked instances.now lookup.now permissions.now }
@@ -105,7 +105,7 @@ fn push_wrong(
     requires within { at < length (items_in instances.now) }
     ensures { OnOk result (IsPushed (is_in lookup.now.enabled.now) instances.now at faults.old.items faults.new.items) }
 {
-    let Some(wrong) = wrong_at(alloc, lookup, permissions, twice, instances, at)? else {
+    let Some(wrong) = wrong_at(alloc, instances, lookup, permissions, twice, at)? else {
         return Ok(());
     };
     let space = spelled(alloc, instances.namespaces(), instances.space(at))?;
@@ -116,10 +116,10 @@ fn push_wrong(
 /// What is wrong with the class of the statement at a place: it has too many permissions, or two commons.
 fn wrong_at<'a>(
     alloc: Global,
+    instances: &Instances<'_, '_, 'a>,
     lookup: &Lookup,
     permissions: &[Vec<Bytes>],
     twice: &[bool],
-    instances: &Instances<'_, '_, 'a>,
     at: usize,
 ) -> Result<Option<Wrong<'a>>, NoMemory>
     requires asked { AreAsked instances.now lookup.now permissions.now }
@@ -127,10 +127,10 @@ fn wrong_at<'a>(
     requires within { at < length (items_in instances.now) }
     ensures { IfOk result (IsWrongAt (is_in lookup.now.enabled.now) instances.now at) }
 {
-    if let Some(wide) = wide_class(lookup, permissions, instances, at) {
+    if let Some(wide) = wide_class(instances, lookup, permissions, at) {
         return Ok(Some(wide));
     }
-    let Some(one) = joined_at(alloc, lookup.names, instances, at)? else {
+    let Some(one) = joined_at(alloc, instances, lookup.names, at)? else {
         return Ok(None);
     };
     if !is_set(twice, one.class) {
@@ -141,9 +141,9 @@ fn wrong_at<'a>(
 
 /// That the enabled class which the statement at a place declares has too many permissions, if it has.
 fn wide_class<'a>(
+    instances: &Instances<'_, '_, 'a>,
     lookup: &Lookup,
     permissions: &[Vec<Bytes>],
-    instances: &Instances<'_, '_, 'a>,
     at: usize,
 ) -> Option<Wrong<'a>>
     requires asked { AreAsked instances.now lookup.now permissions.now }

@@ -38,7 +38,7 @@ pub fn found_in(alloc: Global, instances: &Instances, known: &Known) -> Result<V
     let mut found = Vec::new(alloc);
     for at in 0..instances.len() {
         let words = known.words.row(at);
-        push_found(alloc, &mut found, instances, known, at, words)?;
+        push_found(alloc, instances, &mut found, known, at, words)?;
     }
     Ok(found)
 }
@@ -46,8 +46,8 @@ pub fn found_in(alloc: Global, instances: &Instances, known: &Known) -> Result<V
 /// Adds the statement at a place, if it is a booleanif whose condition names booleans, by what its words mean.
 fn push_found(
     alloc: Global,
-    found: &mut Vec<Found>,
     instances: &Instances,
+    found: &mut Vec<Found>,
     known: &Known,
     at: usize,
     words: &[Meaning],

@@ -22,15 +22,15 @@ pub fn clashes(alloc: Global, instances: &Instances, runs: &[Run]) -> Result<Vec
 {
     let mut faults = Vec::new(alloc);
     for run in runs {
-        push_run(alloc, &mut faults, instances, run)?;
+        push_run(alloc, instances, &mut faults, run)?;
     }
     Ok(faults)
 }
 
 fn push_run(
     alloc: Global,
-    faults: &mut Vec<Fault>,
     instances: &Instances,
+    faults: &mut Vec<Fault>,
     run: &Run,
 ) -> Result<(), NoMemory>
     requires { AreRowsIn instances.now run.now.rows.now }
@@ -39,28 +39,28 @@ fn push_run(
     if !run.differing {
         return Ok(());
     }
-    push_rows(alloc, faults, instances, run.rows)
+    push_rows(alloc, instances, faults, run.rows)
 }
 
 fn push_rows(
     alloc: Global,
-    faults: &mut Vec<Fault>,
     instances: &Instances,
+    faults: &mut Vec<Fault>,
     rows: &[Row],
 ) -> Result<(), NoMemory>
     requires { AreRowsIn instances.now rows.now }
     ensures { OnOk result (faults.new.items ≡ faults.old.items ++ flat_map (row_faults instances.now) rows.now) }
 {
     for row in rows {
-        push_row(alloc, faults, instances, row)?;
+        push_row(alloc, instances, faults, row)?;
     }
     Ok(())
 }
 
 fn push_row(
     alloc: Global,
-    faults: &mut Vec<Fault>,
     instances: &Instances,
+    faults: &mut Vec<Fault>,
     row: &Row,
 ) -> Result<(), NoMemory>
     requires { IsRow instances.now row.now }
@@ -69,14 +69,14 @@ fn push_row(
     let Some(at) = row.at else {
         return Ok(());
     };
-    push_clash(alloc, faults, instances, row, at)
+    push_clash(alloc, instances, faults, row, at)
 }
 
 /// Adds the fault of a row, which is that of the instance at a place.
 fn push_clash(
     alloc: Global,
-    faults: &mut Vec<Fault>,
     instances: &Instances,
+    faults: &mut Vec<Fault>,
     row: &Row,
     at: usize,
 ) -> Result<(), NoMemory>

@@ -32,8 +32,8 @@ use std::mem;
 /// of memory.
 pub fn permissions_of(
     alloc: Global,
-    names: &Names,
     instances: &Instances,
+    names: &Names,
     shared: &[Shared],
 ) -> Result<Vec<Vec<Bytes>>, NoMemory>
     requires entries { AreEntries (namespaces_in instances.now) (items_in instances.now) names.now }
@@ -43,7 +43,7 @@ pub fn permissions_of(
 {
     // What is known of the numbers of namespaces.
     instances.namespaces();
-    let own = own_lists(alloc, names, instances)?;
+    let own = own_lists(alloc, instances, names)?;
     let all = with_commons(alloc, own, shared)?;
     Ok(all)
 }
@@ -52,8 +52,8 @@ pub fn permissions_of(
 /// in byte order, each once; none for what is none of these.
 fn own_lists(
     alloc: Global,
-    names: &Names,
     instances: &Instances,
+    names: &Names,
 ) -> Result<Vec<Vec<Bytes>>, NoMemory>
     requires ordered { AreOrdered (namespaces_in instances.now) names.now }
     ensures len { IfOk result (λ lists. length lists.items ≡ length names.now) }
@@ -65,7 +65,7 @@ fn own_lists(
     let guesses = names.guesses();
     for at in 0..instances.len() {
         add_listed(
-            alloc, &mut lists, &mut last, entries, guesses, instances, at,
+            alloc, instances, &mut lists, &mut last, entries, guesses, at,
         )?;
     }
     Ok(lists)
@@ -93,11 +93,11 @@ fn no_statements(alloc: Global, entries: &[Entry]) -> Result<Vec<Option<usize>>,
 /// each entry the number of the statement is kept whose permissions were added last.
 fn add_listed(
     alloc: Global,
+    instances: &Instances,
     lists: &mut Vec<Vec<Bytes>>,
     last: &mut Vec<Option<usize>>,
     entries: &[Entry],
     guesses: &Guesses,
-    instances: &Instances,
     at: usize,
 ) -> Result<(), NoMemory>
     requires rising { IsStrictlySortedBy (on key_of by_name_cmp) entries.now }
@@ -112,7 +112,7 @@ fn add_listed(
         → AreOwn (namespaces_in instances.now) entries.now xs lists.old.items
         → AreOwn (namespaces_in instances.now) entries.now (xs ++ item_at instances.now at ∷ []) lists.new.items) }
 {
-    let Some(list) = listing_at(entries, guesses, instances, at) else {
+    let Some(list) = listing_at(instances, entries, guesses, at) else {
         return Ok(());
     };
     if is_at(last[list.class], list.statement) {
@@ -151,9 +151,9 @@ pub struct Listing<'t, 'a> {
 
 /// What the statement at a place lists, if it is outside all optionals. It costs one search by halving.
 fn listing_at<'p, 'a>(
+    instances: &Instances<'_, 'p, 'a>,
     entries: &[Entry],
     guesses: &Guesses,
-    instances: &Instances<'_, 'p, 'a>,
     at: usize,
 ) -> Option<Listing<'p, 'a>>
     requires rising { IsStrictlySortedBy (on key_of by_name_cmp) entries.now }

@@ -35,7 +35,7 @@ pub fn rows_of<'a>(
     let mut rows = Vec::new(alloc);
     push_row(&mut rows, object_row(instances))?;
     for at in 0..instances.len() {
-        push_rows(&mut rows, instances, at)?;
+        push_rows(instances, &mut rows, at)?;
     }
     Ok(rows)
 }
@@ -54,8 +54,8 @@ fn object_row<'a>(_instances: &Instances<'_, '_, 'a>) -> Row<'a>
 
 /// Adds the row of what the instance at a place declares.
 fn push_rows<'a>(
-    rows: &mut Vec<Row<'a>>,
     instances: &Instances<'_, '_, 'a>,
+    rows: &mut Vec<Row<'a>>,
     at: usize,
 ) -> Result<(), NoMemory>
     requires { at < length (items_in instances.now) }

@@ -78,27 +78,27 @@ impl Ord for Shared {
 /// pair once. A statement costs a look-up of its two words; at the end the pairs are sorted. Error: out of memory.
 pub fn commons_of(
     alloc: Global,
-    names: &Names,
     instances: &Instances,
+    names: &Names,
 ) -> Result<Vec<Shared>, NoMemory>
     requires { AreEntries (namespaces_in instances.now) (items_in instances.now) names.now }
     ensures { IfOk result (λ shared. AreShared (namespaces_in instances.now) names.now (items_in instances.now) shared.items) }
 {
-    let mut shared = all_shared(alloc, names, instances)?;
+    let mut shared = all_shared(alloc, instances, names)?;
     shared.sort_unstable();
     shared.dedup();
     Ok(shared)
 }
 
 /// The same, in the order of the statements.
-fn all_shared(alloc: Global, names: &Names, instances: &Instances) -> Result<Vec<Shared>, NoMemory>
+fn all_shared(alloc: Global, instances: &Instances, names: &Names) -> Result<Vec<Shared>, NoMemory>
     requires { AreEntries (namespaces_in instances.now) (items_in instances.now) names.now }
     ensures { IfOk result (λ shared. AreRecordsOf (Shares (items_in instances.now)) (IsPairOf (namespaces_in instances.now) names.now) (items_in instances.now) shared.items) }
 {
     let mut shared = Vec::new(alloc);
     let mut scope = ScopeList::new(alloc);
     for at in 0..instances.len() {
-        push_at(alloc, names, instances, at, &mut scope, &mut shared)?;
+        push_at(alloc, instances, names, at, &mut scope, &mut shared)?;
     }
     Ok(shared)
 }
@@ -106,8 +106,8 @@ fn all_shared(alloc: Global, names: &Names, instances: &Instances) -> Result<Vec
 /// Adds the pair that the statement at a place joins, if it joins one.
 fn push_at(
     alloc: Global,
-    names: &Names,
     instances: &Instances,
+    names: &Names,
     at: usize,
     scope: &mut ScopeList,
     shared: &mut Vec<Shared>,
@@ -117,7 +117,7 @@ fn push_at(
     ensures { OnOk result (AreRecordsOf (Shares (items_in instances.now)) (IsPairOf (namespaces_in instances.now) names.now) (take at (items_in instances.now)) shared.old.items
         → AreRecordsOf (Shares (items_in instances.now)) (IsPairOf (namespaces_in instances.now) names.now) (take (at + 1) (items_in instances.now)) shared.new.items) }
 {
-    let one = shared_at(alloc, names, instances, at, scope)?;
+    let one = shared_at(alloc, instances, names, at, scope)?;
     push_shared(shared, one)
 }
 
@@ -136,8 +136,8 @@ fn push_shared(shared: &mut Vec<Shared>, one: Option<Shared>) -> Result<(), NoMe
 /// and commons are declared outside all optionals.
 pub fn shared_at(
     alloc: Global,
-    names: &Names,
     instances: &Instances,
+    names: &Names,
     at: usize,
     scope: &mut ScopeList,
 ) -> Result<Option<Shared>, NoMemory>
@@ -157,8 +157,8 @@ pub fn shared_at(
     };
     let class = named_at(
         alloc,
-        names,
         instances,
+        names,
         at,
         &words.first,
         Sign::PlainClass,
@@ -166,8 +166,8 @@ pub fn shared_at(
     )?;
     let common = named_at(
         alloc,
-        names,
         instances,
+        names,
         at,
         &words.second,
         Sign::Commons,
@@ -194,8 +194,8 @@ fn is_class_common(keyword: Keyword) -> bool
 /// The entry of a wanted kind that a word of the statement at a place names where no optional is enabled.
 fn named_at<'a>(
     alloc: Global,
-    names: &Names,
     instances: &Instances<'_, '_, 'a>,
+    names: &Names,
     at: usize,
     word: &Word<'a>,
     sign: Sign,

@@ -28,7 +28,7 @@ pub fn worded(alloc: Global, instances: &Instances) -> Result<Vec<bool>, NoMemor
 }
 
 /// Whether words of the statement at a place are looked up, by the flags of all written statements. It costs one step.
-pub fn is_worded_at(flags: &[bool], instances: &Instances, at: usize) -> bool
+pub fn is_worded_at(instances: &Instances, flags: &[bool], at: usize) -> bool
     requires flags { AreWorded instances.now flags.now }
     requires within { at < length (items_in instances.now) }
     ensures { result ≡ is_worded (placed_at instances.now at).standing.statement.statement }

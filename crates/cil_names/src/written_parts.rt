@@ -36,7 +36,7 @@ pub fn written_parts<'a>(
     ensures { IfOk result (λ parts. parts_there (all_placed instances.now) parts.items ≡ all_parts_of (terms_with (word_at instances.now there.at) there.«module» terms.now)) }
 {
     let mut parts = Vec::new(alloc);
-    push_terms(&mut parts, instances, there, terms)?;
+    push_terms(instances, &mut parts, there, terms)?;
     Ok(parts)
 }
 
@@ -51,8 +51,8 @@ fn push_part<'a>(parts: &mut Vec<Part<'a>>, part: Part<'a>) -> Result<(), NoMemo
 /// Adds the parts of some terms.
 #[cycle(terms)]
 fn push_terms<'a>(
-    parts: &mut Vec<Part<'a>>,
     instances: &Instances<'_, '_, 'a>,
+    parts: &mut Vec<Part<'a>>,
     there: ReadAt,
     terms: &[Term<'a>],
 ) -> Result<(), NoMemory>
@@ -61,15 +61,15 @@ fn push_terms<'a>(
         ≡ parts_there (all_placed instances.now) parts.old.items ++ all_parts_of (terms_with (word_at instances.now there.at) there.«module» terms.now)) }
 {
     for term in terms {
-        push_term(parts, instances, there, term)?;
+        push_term(instances, parts, there, term)?;
     }
     Ok(())
 }
 
 #[cycle(terms)]
 fn push_term<'a>(
-    parts: &mut Vec<Part<'a>>,
     instances: &Instances<'_, '_, 'a>,
+    parts: &mut Vec<Part<'a>>,
     there: ReadAt,
     term: &Term<'a>,
 ) -> Result<(), NoMemory>
@@ -85,7 +85,7 @@ fn push_term<'a>(
         }
         Term::Form(op, at, items) => {
             push_part(parts, Part::Opens(Spot::of(there.module, *at), *op))?;
-            push_terms(parts, instances, there, items.as_slice())?;
+            push_terms(instances, parts, there, items.as_slice())?;
             push_part(parts, Part::Closes)
         }
     }

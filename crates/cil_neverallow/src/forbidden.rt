@@ -68,8 +68,8 @@ pub fn violations(
 {
     let forbidden = statements_of(
         alloc,
-        &[],
         instances,
+        &[],
         known,
         view.sets,
         view.classes,
@@ -104,8 +104,8 @@ fn check(
     let masks = permissions_of(alloc, forbidden.all_rules(), view.classes.len())?;
     let allowed = statements_of(
         alloc,
-        masks.as_slice(),
         instances,
+        masks.as_slice(),
         known,
         view.sets,
         view.classes,
@@ -133,8 +133,8 @@ fn compare(
         let statement = forbidden.get(number);
         push_one(
             alloc,
-            &mut faults,
             instances,
+            &mut faults,
             view,
             &index,
             &statement,
@@ -147,8 +147,8 @@ fn compare(
 /// Reports the faults of one neverallow statement, where these are the rules of all allow statements.
 fn push_one(
     alloc: Global,
-    faults: &mut Vec<Fault>,
     instances: &Instances,
+    faults: &mut Vec<Fault>,
     view: &View,
     index: &Sections,
     statement: &Part,
@@ -164,15 +164,15 @@ fn push_one(
     if !may_meet(view.sets, index, statement.rules) {
         return Ok(());
     }
-    push_pairs(alloc, faults, instances, view, statement, allowed)?;
+    push_pairs(alloc, instances, faults, view, statement, allowed)?;
     Ok(())
 }
 
 /// Reports the faults of one neverallow statement.
 fn push_pairs(
     alloc: Global,
-    faults: &mut Vec<Fault>,
     instances: &Instances,
+    faults: &mut Vec<Fault>,
     view: &View,
     statement: &Part,
     allowed: &Statements,
@@ -184,7 +184,7 @@ fn push_pairs(
 {
     for number in 0..allowed.len() {
         let other = allowed.get(number);
-        push_pair(alloc, faults, instances, view, statement, &other)?;
+        push_pair(alloc, instances, faults, view, statement, &other)?;
     }
     Ok(())
 }
@@ -192,8 +192,8 @@ fn push_pairs(
 /// Reports a neverallow statement and an allow statement, if they cover something together.
 fn push_pair(
     alloc: Global,
-    faults: &mut Vec<Fault>,
     instances: &Instances,
+    faults: &mut Vec<Fault>,
     view: &View,
     statement: &Part,
     other: &Part,
@@ -208,8 +208,8 @@ fn push_pair(
     };
     push_told(
         alloc,
-        faults,
         instances,
+        faults,
         view,
         statement.place,
         other.place,

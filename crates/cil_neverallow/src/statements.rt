@@ -121,8 +121,8 @@ fn rules_in(rules: &[NamedRule], run: Run) -> &[NamedRule]
 /// on a class without a mask: so with no masks all of them. The others take no memory. Error: out of memory.
 pub fn statements_of(
     alloc: Global,
-    masks: &[u32],
     instances: &Instances,
+    masks: &[u32],
     known: &Known,
     types: &[Numbers],
     classes: &[Class],
@@ -145,11 +145,11 @@ pub fn statements_of(
     for at in 0..instances.len() {
         add_at(
             alloc,
+            instances,
             masks,
             &mut kept,
             &mut rules,
             &mut given_masks,
-            instances,
             at,
             known,
             types,
@@ -165,11 +165,11 @@ pub fn statements_of(
 /// on a class without a mask. The other two lists are room for its rules, and for the masks that its class permission gives.
 fn add_at(
     alloc: Global,
+    instances: &Instances,
     masks: &[u32],
     kept: &mut Statements,
     rules: &mut Vec<NamedRule>,
     given_masks: &mut Vec<(ClassId, u32)>,
-    instances: &Instances,
     at: usize,
     known: &Known,
     types: &[Numbers],
@@ -192,9 +192,9 @@ fn add_at(
     let words = known.words.row(at);
     push_rules(
         alloc,
+        instances,
         rules,
         given_masks,
-        instances,
         at,
         words,
         known,

@@ -18,8 +18,8 @@ use std::alloc::Global;
 /// Reports the neverallow statement at a place and the allow statement at another, which cover this together.
 pub fn push_told(
     alloc: Global,
-    faults: &mut Vec<Fault>,
     instances: &Instances,
+    faults: &mut Vec<Fault>,
     view: &View,
     place: usize,
     other: usize,

@@ -28,7 +28,7 @@ pub fn base_faults<'r, 'a>(
     requires permissions { ArePermissions (namespaces_in instances.now) names.now (items_in instances.now) permissions.now }
     ensures { Answers (λ done. Unit {0}) (ResolveFault (is_in chosen.now.enabled) (items_in instances.now)) result }
 {
-    let asks = asks_of(alloc, names, permissions, instances)?;
+    let asks = asks_of(alloc, instances, names, permissions)?;
     judged(alloc, instances, names, &asks, &chosen.enabled)?;
     Ok(())
 }

@@ -65,7 +65,7 @@ pub fn greatest<'r, 'a>(
     ensures greatest { IfOk result (λ c. IsGreatest (items_in instances.now) (is_in c.enabled)) }
     ensures first { IfOk result (λ c. AreFirst (items_in instances.now) [] c.reasons.items) }
 {
-    let asks = asks_of(alloc, names, permissions, instances)?;
+    let asks = asks_of(alloc, instances, names, permissions)?;
     let chosen = greatest_of(alloc, instances, names, &asks)?;
     Ok(chosen)
 }
@@ -104,7 +104,7 @@ pub fn greatest_counted<'r, 'a>(
     ensures removals { IfOk result (λ c. c.removals ≡ removals (items_in instances.now) (is_in c.chosen.enabled)) }
     ensures lookups { IfOk result (λ c. c.lookups ≡ lookups (items_in instances.now) (is_in c.chosen.enabled)) }
 {
-    let asks = asks_of(alloc, names, permissions, instances)?;
+    let asks = asks_of(alloc, instances, names, permissions)?;
     let counted = counted_of(alloc, instances, names, &asks)?;
     Ok(counted)
 }
@@ -209,7 +209,7 @@ pub fn check<'r, 'a>(
     ensures { IfOk result (λ b. IsTrue b ↔ IsRight (items_in instances.now) (is_in chosen.now.enabled) chosen.now.reasons.items) }
 {
     resolves_by_candidates();
-    let asks = asks_of(alloc, names, permissions, instances)?;
+    let asks = asks_of(alloc, instances, names, permissions)?;
     let parts = parts_of(instances, names, &asks);
     let right = is_shown(alloc, &parts, names.entries(), chosen)?;
     Ok(right)

@@ -31,7 +31,7 @@ pub fn guess<'r, 'a>(
     requires entries { AreEntries (namespaces_in instances.now) (items_in instances.now) names.now }
     requires permissions { ArePermissions (namespaces_in instances.now) names.now (items_in instances.now) permissions.now }
 {
-    let asks = asks_of(alloc, names, permissions, instances)?;
+    let asks = asks_of(alloc, instances, names, permissions)?;
     let parts = Parts {
         instances,
         asks: &asks,

@@ -79,7 +79,7 @@ pub fn greatest_in_rounds<'r, 'a>(
     right_is_greatest();
     one_greatest();
     resolves_by_candidates();
-    let asks = asks_of(alloc, names, permissions, instances)?;
+    let asks = asks_of(alloc, instances, names, permissions)?;
     let parts = parts_of(instances, names, &asks);
     let chosen = by_removal(alloc, &parts, names.entries())?;
     Ok(chosen)

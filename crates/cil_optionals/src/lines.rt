@@ -67,7 +67,7 @@ pub fn optional_lines(
 {
     let mut lines = Vec::new(alloc);
     for at in 0..instances.len() {
-        push_optional(alloc, &mut lines, instances, enabled, at)?;
+        push_optional(alloc, instances, &mut lines, enabled, at)?;
     }
     lines.sort_unstable();
     Ok(lines)
@@ -93,8 +93,8 @@ pub fn why_lines(
 /// Adds the line of the instance at a place, if it is an optional.
 fn push_optional(
     alloc: Global,
-    lines: &mut Vec<OptionalLine>,
     instances: &Instances,
+    lines: &mut Vec<OptionalLine>,
     enabled: &OptSet,
     at: usize,
 ) -> Result<(), NoMemory>

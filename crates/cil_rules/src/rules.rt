@@ -68,7 +68,7 @@ pub fn rules_of(
     for at in 0..instances.len() {
         let words = known.words.row(at);
         push_in_branch(
-            alloc, &mut rules, &mut masks, instances, at, words, known, types, classes, given,
+            alloc, instances, &mut rules, &mut masks, at, words, known, types, classes, given,
             branches, keyword,
         )?;
     }
@@ -79,9 +79,9 @@ pub fn rules_of(
 /// names no boolean.
 fn push_in_branch(
     alloc: Global,
+    instances: &Instances,
     out: &mut Vec<NamedRule>,
     masks: &mut Vec<(ClassId, u32)>,
-    instances: &Instances,
     at: usize,
     words: &[Meaning],
     known: &Known,
@@ -111,7 +111,7 @@ fn push_in_branch(
         return Ok(());
     };
     push_rules(
-        alloc, out, masks, instances, at, words, known, types, classes, given, branch, keyword,
+        alloc, instances, out, masks, at, words, known, types, classes, given, branch, keyword,
     )?;
     Ok(())
 }
@@ -121,9 +121,9 @@ fn push_in_branch(
 /// no statement takes memory of its own.
 pub fn push_rules(
     alloc: Global,
+    instances: &Instances,
     out: &mut Vec<NamedRule>,
     masks: &mut Vec<(ClassId, u32)>,
-    instances: &Instances,
     at: usize,
     words: &[Meaning],
     known: &Known,
@@ -154,7 +154,7 @@ pub fn push_rules(
     }
     if instances.may_have_list(at) {
         push_listed(
-            alloc, out, masks, instances, at, words, known, types, classes, given, branch,
+            alloc, instances, out, masks, at, words, known, types, classes, given, branch,
         )?;
         return Ok(());
     }
@@ -167,9 +167,9 @@ pub fn push_rules(
 /// Adds the rules of the enabled statement at a place in which a list may be put in for a word: those of what it says, as a statement.
 fn push_listed(
     alloc: Global,
+    instances: &Instances,
     out: &mut Vec<NamedRule>,
     masks: &mut Vec<(ClassId, u32)>,
-    instances: &Instances,
     at: usize,
     words: &[Meaning],
     known: &Known,

@@ -81,7 +81,7 @@ fn unsorted(alloc: Global, instances: &Instances, known: &Known) -> Result<Vec<B
 {
     let mut on = Vec::new(alloc);
     for at in 0..instances.len() {
-        push_on(alloc, &mut on, instances, known, at)?;
+        push_on(alloc, instances, &mut on, known, at)?;
     }
     Ok(on)
 }
@@ -89,8 +89,8 @@ fn unsorted(alloc: Global, instances: &Instances, known: &Known) -> Result<Vec<B
 /// Adds the name of the boolean that the statement at a place says to be on, if it is an enabled one.
 fn push_on(
     alloc: Global,
-    on: &mut Vec<Bytes>,
     instances: &Instances,
+    on: &mut Vec<Bytes>,
     known: &Known,
     at: usize,
 ) -> Result<(), NoMemory>

@@ -105,10 +105,10 @@ fn placed_policy(alloc: Global, instances: &Instances) -> Result<Compiled, Failu
     ensures faults { IfErr result (ItemsFail (items_in instances.now)) }
 {
     let names = declare(alloc, instances)?;
-    let shared = commons_of(alloc, &names, instances)?;
-    let permissions = permissions_of(alloc, &names, instances, shared.as_slice())?;
+    let shared = commons_of(alloc, instances, &names)?;
+    let permissions = permissions_of(alloc, instances, &names, shared.as_slice())?;
     let permissions = permissions.as_slice();
-    let asks = asks_of(alloc, &names, permissions, &*instances)?;
+    let asks = asks_of(alloc, &*instances, &names, permissions)?;
     let chosen = greatest_of(alloc, &*instances, &names, &asks)?;
     judged(alloc, &*instances, &names, &asks, &chosen.enabled)?;
     let lookup = Lookup {
@@ -256,13 +256,13 @@ fn judged_sets(
 {
     let rows = classes(
         alloc,
+        instances,
         &known.lookup,
         numbering,
         known.permissions,
         shared,
-        instances,
     );
-    let standings = standings_of(alloc, known, instances, &numbering.sections);
+    let standings = standings_of(alloc, instances, known, &numbering.sections);
     let few = check_booleans(alloc, numbering.sections.booleans.as_slice());
     let others = together(standings, few);
     together(rows, others)

@@ -47,8 +47,8 @@ pub struct AllMembers {
 /// Errors: the faults of aliases and attributes, and too many users, roles or types; or out of memory.
 pub(crate) fn standings_of(
     alloc: Global,
-    known: &Known,
     instances: &Instances,
+    known: &Known,
     sections: &Sections,
 ) -> Result<Standings, Failure>
     requires namespaces { known.now.lookup.namespaces.now ≡ namespaces_in instances.now }
@@ -57,7 +57,7 @@ pub(crate) fn standings_of(
     requires apart { AreApart known.now.lookup.names.now (enabled_in known.now) known.now.numbers.now }
     ensures { Answers (AllStand known.now (items_in instances.now) (names_of sections.now)) (MembersFault (enabled_in known.now) (items_in instances.now)) result }
 {
-    let all = all_members(alloc, known, instances, sections)?;
+    let all = all_members(alloc, instances, known, sections)?;
     let standings = all_sets(alloc, &all, sections)?;
     Ok(standings)
 }
@@ -65,8 +65,8 @@ pub(crate) fn standings_of(
 /// The members of all aliases and attributes, or the faults of all three name spaces.
 fn all_members(
     alloc: Global,
-    known: &Known,
     instances: &Instances,
+    known: &Known,
     sections: &Sections,
 ) -> Result<AllMembers, Failure>
     requires namespaces { known.now.lookup.namespaces.now ≡ namespaces_in instances.now }

@@ -76,10 +76,10 @@ fn ask_by_names<'r, 'a, Q: NamedQuestion>(
 ) -> bool
     requires { AreEntries (namespaces_in instances.now) (items_in instances.now) names.now }
 {
-    let Ok(shared) = commons_of(alloc, names, instances) else {
+    let Ok(shared) = commons_of(alloc, instances, names) else {
         return false;
     };
-    let Ok(lists) = permissions_of(alloc, names, instances, shared.as_slice()) else {
+    let Ok(lists) = permissions_of(alloc, instances, names, shared.as_slice()) else {
         return false;
     };
     let permissions = lists.as_slice();

@@ -22,7 +22,7 @@ impl NamedQuestion for NamedWords {
         let Some(words) = words_of(alloc, all) else {
             return false;
         };
-        match asks_of(alloc, all.names, all.permissions, all.instances) {
+        match asks_of(alloc, all.instances, all.names, all.permissions) {
             Ok(asks) => show_row(out, &asks, self.0, words.row(self.0)),
             Err(_) => false,
         }
@@ -35,7 +35,7 @@ fn words_of(alloc: Global, all: &Named) -> Option<Words>
     requires permissions { ArePermissions (namespaces_in all.now.instances.now) all.now.names.now (items_in all.now.instances.now) all.now.permissions.now }
 {
     let enabled = OptSet::of(Vec::new(alloc));
-    let asks = asks_of(alloc, all.names, all.permissions, all.instances).ok()?;
+    let asks = asks_of(alloc, all.instances, all.names, all.permissions).ok()?;
     if judged(alloc, all.instances, all.names, &asks, &enabled).is_err() {
         return None;
     }
@@ -148,7 +148,7 @@ struct Listed;
 
 impl NamedQuestion for Listed {
     fn answer(&self, alloc: Global, all: &Named, out: &mut String) -> bool {
-        match asks_of(alloc, all.names, all.permissions, all.instances) {
+        match asks_of(alloc, all.instances, all.names, all.permissions) {
             Ok(asks) => show_lists(alloc, out, all.instances, &asks),
             Err(_) => false,
         }

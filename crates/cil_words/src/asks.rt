@@ -50,9 +50,9 @@ impl Model for Asks {
 /// beside one another; a word whose name is declared once, in the global namespace, asks for none. Error: out of memory.
 pub fn asks_of<'r, 'a>(
     alloc: Global,
+    instances: &'r Instances<'_, '_, 'a>,
     names: &'r Names<'a>,
     permissions: &'r [Vec<Bytes>],
-    instances: &'r Instances<'_, '_, 'a>,
 ) -> Result<Asks, NoMemory>
     requires entries { AreEntries (namespaces_in instances.now) (items_in instances.now) names.now }
     requires permissions { ArePermissions (namespaces_in instances.now) names.now (items_in instances.now) permissions.now }
@@ -129,7 +129,7 @@ impl Maker<'_, '_, '_, '_> {
         ensures scopes { OnOk result (AreScopes self.now.instances.now scopes.new) }
     {
         push_number(starts, cells.len())?;
-        if !is_worded_at(self.worded, self.instances, at) {
+        if !is_worded_at(self.instances, self.worded, at) {
             return Ok(());
         }
         let walk = Walk {

@@ -114,7 +114,7 @@ impl<'r, 's, 'p, 'a> Walk<'r, 's, 'p, 'a> {
         ensures class { IfOk result (IsClassFor (spaces_by self.now) self.now.names.now self.now.permissions.now (scoped_there self.now.reading class.now)) }
         ensures scopes { OnOk result (AreScopes self.now.reading.instances.now scopes.new) }
     {
-        let Some(entry) = unscoped(self.names, self.reading.instances, class) else {
+        let Some(entry) = unscoped(self.reading.instances, self.names, class) else {
             self.scoped(cells, scopes, class)?;
             return self.scoped_class(scopes, class);
         };
@@ -137,9 +137,9 @@ impl<'r, 's, 'p, 'a> Walk<'r, 's, 'p, 'a> {
         ensures scopes { OnOk result (AreScopes self.now.reading.instances.now scopes.new) }
     {
         if let Some(found) = class_there(
+            self.reading.instances,
             self.names,
             self.permissions,
-            self.reading.instances,
             entry,
         ) {
             return Ok(Some(found));
@@ -161,18 +161,18 @@ impl<'r, 's, 'p, 'a> Walk<'r, 's, 'p, 'a> {
         if is_at(class.scope, self.reading.at) {
             class_in(
                 self.alloc,
+                self.reading.instances,
                 self.names,
                 self.permissions,
-                self.reading.instances,
                 &mut scopes.own,
                 class,
             )
         } else {
             class_in(
                 self.alloc,
+                self.reading.instances,
                 self.names,
                 self.permissions,
-                self.reading.instances,
                 &mut scopes.other,
                 class,
             )
@@ -224,9 +224,9 @@ impl<'r, 's, 'p, 'a> Walk<'r, 's, 'p, 'a> {
 /// The class that a class word names, where this is the scope that was filled last.
 fn class_in<'r>(
     alloc: Global,
+    instances: &Instances,
     names: &Names,
     permissions: &'r [Vec<Bytes>],
-    instances: &Instances,
     last: &mut LastScope,
     class: &PlacedWord,
 ) -> Result<Option<Class<'r>>, NoMemory>
@@ -249,9 +249,9 @@ fn class_in<'r>(
 
 /// The class that is the entry of a number, if it is declared outside all optionals.
 fn class_there<'r>(
+    instances: &Instances,
     names: &Names,
     permissions: &'r [Vec<Bytes>],
-    instances: &Instances,
     entry: usize,
 ) -> Option<Class<'r>>
     requires ordered { AreOrdered (namespaces_in instances.now) names.now }

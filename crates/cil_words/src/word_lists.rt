@@ -32,7 +32,7 @@ impl<'r, 's, 'p, 'a> Walk<'r, 's, 'p, 'a> {
         ensures asks { OnOk result (AddsFor self.now (AWord (scoped_there self.now.reading word.now) ∷ []) cells.old cells.new) }
         ensures scopes { OnOk result (AreScopes self.now.reading.instances.now scopes.new) }
     {
-        if let Some(entry) = unscoped(self.names, self.reading.instances, word) {
+        if let Some(entry) = unscoped(self.reading.instances, self.names, word) {
             return cells.push_one(entry);
         }
         self.scoped(cells, scopes, word)
@@ -53,8 +53,8 @@ impl<'r, 's, 'p, 'a> Walk<'r, 's, 'p, 'a> {
         if is_at(word.scope, self.reading.at) {
             push_found(
                 self.alloc,
-                self.names,
                 self.reading.instances,
+                self.names,
                 cells,
                 &mut scopes.own,
                 word,
@@ -62,8 +62,8 @@ impl<'r, 's, 'p, 'a> Walk<'r, 's, 'p, 'a> {
         } else {
             push_found(
                 self.alloc,
-                self.names,
                 self.reading.instances,
+                self.names,
                 cells,
                 &mut scopes.other,
                 word,
@@ -73,7 +73,7 @@ impl<'r, 's, 'p, 'a> Walk<'r, 's, 'p, 'a> {
 }
 
 /// The one entry that a word could name whatever its scope is. None says nothing.
-pub fn unscoped(names: &Names, instances: &Instances, word: &PlacedWord) -> Option<usize>
+pub fn unscoped(instances: &Instances, names: &Names, word: &PlacedWord) -> Option<usize>
     ensures within { IfSome result (λ d. d < length names.now) }
     ensures candidate { IfSome result (λ d. candidates_of (namespaces_in instances.now) names.now (scoped_by (all_placed instances.now) word.now) ≡ d ∷ []) }
 {
@@ -91,8 +91,8 @@ pub fn unscoped(names: &Names, instances: &Instances, word: &PlacedWord) -> Opti
 /// hash, and a step for each of them and each namespace of the scope.
 fn push_found(
     alloc: Global,
-    names: &Names,
     instances: &Instances,
+    names: &Names,
     cells: &mut Cells,
     last: &mut LastScope,
     word: &PlacedWord,
