@@ -75,9 +75,9 @@ fn all_members(
     requires apart { AreApart known.now.lookup.names.now (enabled_in known.now) known.now.numbers.now }
     ensures { Answers (AreAllMembers known.now (items_in instances.now) (names_of sections.now)) (MembersFault (enabled_in known.now) (items_in instances.now)) result }
 {
-    let users = members::<Users>(alloc, known, instances, sections.users.as_slice());
-    let roles = members::<Roles>(alloc, known, instances, sections.roles.as_slice());
-    let types = members::<Types>(alloc, known, instances, sections.types.as_slice());
+    let users = members::<Users>(alloc, instances, known, sections.users.as_slice());
+    let roles = members::<Roles>(alloc, instances, known, sections.roles.as_slice());
+    let types = members::<Types>(alloc, instances, known, sections.types.as_slice());
     let both_roles_types = together(roles, types);
     let Both {
         first: users,
