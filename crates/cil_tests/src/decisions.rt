@@ -1,7 +1,7 @@
 //! Contexts, names and decisions over compiled tables, and a host that answers: each call once, and what no request can ask. What rules
 //! give is in `rows/policies.session`, what booleans do in `rows/booleans.session`.
 
-use crate::answers::FIRST;
+use crate::growths::FIRST;
 use cil_base::Names;
 use cil_decide::{
     ClassId, Context, boolean_named, class_named, decide, defaults, parse_context, permission_at,

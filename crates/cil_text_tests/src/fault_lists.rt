@@ -38,28 +38,44 @@ const LINES: &str =
     "21 2 2 . z\n23 0 0 . -\n25 0 9 . a\n25 0 9 . ab\n25 0 9 . c\n25 0 10 . b\n25 1 7 . b\n\
     36 18446744073709551615 10 . w\n41 0 1 . a\n";
 
+/// Whether the lines of a list are these.
+fn is_printed_so(alloc: Global, list: &FaultList, lines: &[u8]) -> bool {
+    render(alloc, list).is_ok_and(|printed| printed.as_slice() == lines)
+}
+
 #[test]
 fn faults_are_sorted_and_printed_once(rt: HostRuntime) -> Result<(), Fail> {
     let alloc = rt.alloc();
     assert!(rt; list_of(alloc, &[]).is_none());
     let list = list_of(alloc, FAULTS).ok_or("no list")?;
-    assert_eq!(rt; String::from_utf8(render(alloc, &list)?)?.as_str(), LINES);
-    assert_eq!(rt; list.len(), 9);
+    assert!(rt; is_printed_so(alloc, &list, LINES.as_bytes()) && list.len() == 9);
     Ok(())
 }
 
 const SAME: Row = (FaultCode::BadName, 0, 3, "a");
 
+/// The joined list of two lists of faults.
+fn joined(alloc: Global, first: &[Row], second: &[Row]) -> Option<FaultList> {
+    let first = list_of(alloc, first)?;
+    first.join(list_of(alloc, second)?).ok()
+}
+
+/// Whether a list has faults at these places, and no others.
+fn are_at(list: &FaultList, places: &[u64]) -> bool {
+    let faults = list.as_slice();
+    faults.len() == places.len()
+        && faults
+            .iter()
+            .zip(places)
+            .all(|(fault, place)| fault.at == *place)
+}
+
 #[test]
-fn lists_are_joined(rt: HostRuntime) -> Result<(), Fail> {
-    let alloc = rt.alloc();
+fn lists_are_joined(rt: HostRuntime) {
     let first = [SAME, (FaultCode::BadName, 0, 1, "a")];
     let second = [(FaultCode::BadName, 0, 2, "a"), SAME];
-    let list = list_of(alloc, &first).ok_or("no list")?;
-    let list = list.join(list_of(alloc, &second).ok_or("no list")?)?;
-    let places: Vec<u64> = list.as_slice().iter().map(|fault| fault.at).collect(alloc)?;
-    assert_eq!(rt; places.as_slice(), [1, 2, 3].as_slice());
-    Ok(())
+    let list = joined(rt.alloc(), &first, &second);
+    assert!(rt; list.is_some_and(|list| are_at(&list, &[1, 2, 3])));
 }
 
 /// The sentences of faults of texts and bundles.

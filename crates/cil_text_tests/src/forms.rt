@@ -104,33 +104,74 @@ fn text(bytes: &[u8]) -> &str {
     }
 }
 
+/// Adds what a statement declares and how many items are listed behind it, if it declares a name.
+fn show_name(out: &mut String, statement: &Statement) -> Result<bool, Fail> {
+    let Some(name) = statement.declared_name() else {
+        return Ok(false);
+    };
+    let items = statement.listed_behind_name();
+    let listed = items.map_or(0, |items| items.len());
+    write!(
+        out,
+        "{} at {}, {listed} listed",
+        text(name.bytes),
+        name.at.at
+    )?;
+    Ok(true)
+}
+
+/// Adds the words of a statement that says two.
+fn show_two(out: &mut String, statement: &Statement) -> Result<bool, Fail> {
+    let Some(words) = statement.two_words() else {
+        return Ok(false);
+    };
+    let (first, second) = (words.first.bytes, words.second.bytes);
+    write!(
+        out,
+        "{} and {}",
+        text(first.as_slice()),
+        text(second.as_slice())
+    )?;
+    Ok(true)
+}
+
+/// The word of a term, where it is one.
+fn word_of<'a>(term: &Term<'a>) -> &'a str {
+    match term.word(0) {
+        Some(word) => text(word.bytes.as_slice()),
+        None => "no word",
+    }
+}
+
+/// The class word of a term, where it is a class permission.
+fn class_of<'a>(term: &Term<'a>) -> &'a str {
+    match term.class_parts(0) {
+        Some(parts) => text(parts.class.bytes.as_slice()),
+        None => "no class",
+    }
+}
+
+/// Adds the source, the target and the class of a rule.
+fn show_rule(out: &mut String, statement: &Statement) -> Result<bool, Fail> {
+    let Some(rule) = statement.rule_parts() else {
+        return Ok(false);
+    };
+    let source = text(rule.source.bytes.as_slice());
+    let (target, class) = (word_of(rule.target), class_of(rule.class_permission));
+    write!(out, "{source} to {target}: {class}")?;
+    Ok(true)
+}
+
 /// A statement in one line: its name, its two words, or the parts of its rule.
 fn line_of(alloc: Global, statement: &Statement) -> Result<String, Fail> {
-    if let Some(name) = statement.declared_name() {
-        let (at, name) = (name.at.at, text(name.bytes));
-        let items = statement.listed_behind_name();
-        let listed = items.map_or(0, |items| items.len());
-        return Ok(format!(in alloc; "{name} at {at}, {listed} listed")?);
+    let mut out = String::new(alloc);
+    let is_shown = show_name(&mut out, statement)?
+        || show_two(&mut out, statement)?
+        || show_rule(&mut out, statement)?;
+    if !is_shown {
+        out.push_str("no form")?;
     }
-    if let Some(words) = statement.two_words() {
-        let first = text(words.first.bytes.as_slice());
-        let second = text(words.second.bytes.as_slice());
-        return Ok(format!(in alloc; "{first} and {second}")?);
-    }
-    let Some(rule) = statement.rule_parts() else {
-        return Ok(format!(in alloc; "no form")?);
-    };
-    let module = statement.at.module;
-    let source = text(rule.source.bytes.as_slice());
-    let target = match rule.target.word(module) {
-        Some(word) => format!(in alloc; "{}", text(word.bytes.as_slice()))?,
-        None => format!(in alloc; "no word")?,
-    };
-    let class = match rule.class_permission.class_parts(module) {
-        Some(parts) => format!(in alloc; "{}", text(parts.class.bytes.as_slice()))?,
-        None => format!(in alloc; "no class")?,
-    };
-    Ok(format!(in alloc; "{source} to {target}: {class}")?)
+    Ok(out)
 }
 
 /// Statements, and behind arrows what they are in one line.

@@ -1,8 +1,8 @@
 //! The tests of the crates below names: sets of numbers, graphs, module sets, texts, lists of faults and written statements. What
 //! they test is what neither a clause nor a session says; what a session can show is a row in `rows/`. Expected values come from
 //! the rules of the language or from another program, never from this one. They stand in a crate above all that they test, since
-//! the test build of a crate proves that crate once more. `cil_tests` has those of the crates above; both make their sets of
-//! modules by `set_of`.
+//! the test build of a crate proves that crate once more. `cil_name_tests` and `cil_tests` have those of the crates above; all make
+//! their sets of modules by `set_of`.
 #![tactic(auto)]
 
 #[cfg(test)]

@@ -37,23 +37,55 @@ pub(crate) fn holds(set: &ModuleSet, texts: &[&[u8]]) -> bool {
     true
 }
 
+/// Texts of a set and of another, how many of these are new to it, and what it has after a merge.
+type Row = (
+    &'static [&'static [u8]],
+    &'static [&'static [u8]],
+    u64,
+    &'static [&'static [u8]],
+);
+
+const MERGES: &[Row] = &[
+    (&[B], &[A, B], 1, &[A, B]),
+    (&[A, C], &[B], 1, &[A, B, C]),
+    (&[A, B], &[], 0, &[A, B]),
+    (&[], &[A, C], 2, &[A, C]),
+];
+
 fn merge_twice<J: Join>(alloc: Global, set: &mut J, other: &J) -> Result<(u64, u64), NoMemory> {
     let first = set.merge(alloc, other)?;
     let second = set.merge(alloc, other)?;
     Ok((first, second))
 }
 
+/// Whether a merge into a clone of a set goes as the row says. Each function here holds one set, since each way out lets go of all.
+fn is_merged_so(alloc: Global, set: &ModuleSet, other: &ModuleSet, row: &Row) -> bool {
+    match set.try_clone(alloc) {
+        Ok(mut merged) => {
+            merge_twice(alloc, &mut merged, other) == Ok((row.2, 0)) && holds(&merged, row.3)
+        }
+        Err(_) => false,
+    }
+}
+
+/// The same, with the other set of the row, which stays as it is.
+fn merges_so(alloc: Global, set: &ModuleSet, row: &Row) -> bool {
+    match set_of_texts(alloc, row.1) {
+        Ok(other) => is_merged_so(alloc, set, &other, row) && holds(&other, row.1),
+        Err(_) => false,
+    }
+}
+
 #[test]
 fn merges_into_a_clone(rt: HostRuntime) -> Result<(), Fail> {
     let alloc = rt.alloc();
-    let both = set_of_texts(alloc, &[A, B])?;
-    let one = set_of_texts(alloc, &[B])?;
-    let mut merged = one.try_clone(alloc)?;
-    assert_eq!(rt; merge_twice(alloc, &mut merged, &both), Ok((1, 0)));
-    assert!(rt; holds(&merged, &[A, B]) && holds(&one, &[B]) && holds(&both, &[A, B]));
-    let mut outer = set_of_texts(alloc, &[A, C])?;
-    assert_eq!(rt; merge_twice(alloc, &mut outer, &one), Ok((1, 0)));
-    assert!(rt; holds(&outer, &[A, B, C]));
-    assert_eq!(rt; outer.export(alloc)?.as_slice(), BUNDLE_OF_THREE);
+    for row in MERGES {
+        let set = set_of_texts(alloc, row.0)?;
+        assert!(rt;
+            merges_so(alloc, &set, row) && holds(&set, row.0),
+            "{}",
+            row.2
+        );
+    }
     Ok(())
 }

@@ -1,6 +1,6 @@
 //! Trees of texts.
 
-use cil_sexpr::{Node, Span, Tree, read};
+use cil_sexpr::{Node, Span, read};
 use std::test::Fail;
 
 /// Some nodes in one line: what each is, and from where to where; behind a list its items in brackets.
@@ -34,32 +34,36 @@ fn a_tree_has_all_that_stands_in_the_text(rt: HostRuntime) -> Result<(), Fail> {
     Ok(())
 }
 
-/// The first list of a tree.
-fn first_at(tree: &Tree) -> Option<&Node> {
-    tree.children().first()
+/// A text, and the first items of its first list: the bytes of each, and how many items it has.
+const ITEMS: &[u8] = b"(a \"b\" (c d))";
+
+const BYTES: &[(&[u8], usize)] = &[(b"a", 0), (b"\"b\"", 0), (b"(c d)", 2)];
+
+/// Whether a node of `ITEMS` has these bytes and so many items.
+fn is_node_so(node: &Node, want: &(&[u8], usize)) -> bool {
+    let Span { start, end } = node.span();
+    start <= end
+        && end as usize <= ITEMS.len()
+        && node.bytes(ITEMS) == want.0
+        && node.children().len() == want.1
+}
+
+/// Whether the first of some lists has the items of `BYTES`.
+fn has_items(lists: &[Node]) -> bool {
+    let Some(list) = lists.first() else {
+        return false;
+    };
+    let nodes = list.children();
+    nodes.len() == BYTES.len()
+        && nodes
+            .iter()
+            .zip(BYTES)
+            .all(|(node, want)| is_node_so(node, want))
 }
 
 #[test]
 fn nodes_give_their_bytes_and_items(rt: HostRuntime) -> Result<(), Fail> {
-    let text = b"(a \"b\" (c d))";
-    let tree = read(rt.alloc(), text)?;
-    let list = first_at(&tree).ok_or("no list")?;
-    let mut seen = Vec::new(rt.alloc());
-    for node in list.children() {
-        let Span { start, end } = node.span();
-        assert!(rt; start <= end && end as usize <= text.len());
-        seen.push(node.bytes(text))?;
-        assert_eq!(rt;
-            node.children().len(),
-            match node {
-                Node::List(_, _) => 2,
-                _ => 0,
-            }
-        );
-    }
-    assert_eq!(rt; seen.len(), 3);
-    assert_eq!(rt; seen[0], b"a".as_slice());
-    assert_eq!(rt; seen[1], b"\"b\"".as_slice());
-    assert_eq!(rt; seen[2], b"(c d)".as_slice());
+    let tree = read(rt.alloc(), ITEMS)?;
+    assert!(rt; has_items(tree.children()));
     Ok(())
 }
