@@ -5,6 +5,7 @@ pub mod Booleans
 pub mod Both
 pub mod CompileAnswer
 pub mod CompileRefusal
+pub mod CompileSteps
 pub mod Compiled
 pub mod Contexts
 pub mod Faults

@@ -14,6 +14,7 @@ ghost use Rattle.cil_names.specs.Rows.{IsTableOf};
 ghost use Rattle.cil_names.specs.Shared.{AreShared};
 ghost use Rattle.cil_names.specs.Unresolved.{ArePermissions};
 ghost use Rattle.cil_tables.specs.CompileAnswer.{IsCompiled, IsCompiledOf, StandsIn};
+ghost use Rattle.cil_tables.specs.CompileSteps.{HaveNames, IsChosen};
 ghost use Rattle.cil_faults.specs.First.{AreFirst};
 ghost use Rattle.cil_tables.specs.CompileRefusal.{CompileFails, ItemsFail, LaterFail, later_steps};
 ghost use Rattle.cil_tables.specs.Compiled.{IsTable};
@@ -37,8 +38,8 @@ use cil_faults::Failure;
 use cil_macros::{Instances, expand};
 use cil_modset::ModuleSet;
 use cil_names::{
-    Known, Lookup, Numbering, Sections, Shared, Words, commons_of, declare, numbered,
-    permissions_of,
+    Known, Lookup, Names as DeclaredNames, Numbering, Sections, Shared, Words, commons_of, declare,
+    numbered, permissions_of,
 };
 use cil_optionals::{
     Chosen, OptionalLine, Reason, WhyLine, greatest_of, optional_lines, why_lines,
@@ -107,24 +108,61 @@ fn placed_policy(alloc: Global, instances: &Instances) -> Result<Compiled, Failu
     let names = declare(alloc, instances)?;
     let shared = commons_of(alloc, instances, &names)?;
     let permissions = permissions_of(alloc, instances, &names, shared.as_slice())?;
-    let permissions = permissions.as_slice();
-    let asks = asks_of(alloc, &*instances, &names, permissions)?;
-    let chosen = greatest_of(alloc, &*instances, &names, &asks)?;
-    judged(alloc, &*instances, &names, &asks, &chosen.enabled)?;
+    named_policy(
+        alloc,
+        &*instances,
+        &names,
+        permissions.as_slice(),
+        shared.as_slice(),
+    )
+}
+
+/// What all that is placed compiles to, by its names, which no declarations clash over.
+///
+/// Errors: the faults of the first step that has some (unresolved words outside optionals, aliases, attributes, booleans and classes,
+/// forbidden rules), or out of memory.
+fn named_policy<'a>(
+    alloc: Global,
+    instances: &Instances<'_, '_, 'a>,
+    names: &DeclaredNames<'a>,
+    permissions: &[Vec<Bytes>],
+    shared: &[Shared],
+) -> Result<Compiled, Failure>
+    requires { HaveNames (namespaces_in instances.now) names.now (items_in instances.now) permissions.now shared.now }
+    ensures compiled { IfOk result (IsCompiledOf (items_in instances.now)) }
+    ensures faults { IfErr result (ItemsFail (items_in instances.now)) }
+{
+    let asks = asks_of(alloc, &*instances, &*names, permissions)?;
+    let chosen = greatest_of(alloc, &*instances, &*names, &asks)?;
+    judged(alloc, &*instances, &*names, &asks, &chosen.enabled)?;
+    let words = settled(alloc, names, asks, &chosen.enabled)?;
+    chosen_policy(alloc, instances, names, permissions, shared, &words, chosen)
+}
+
+/// What all that is placed compiles to, where these optionals are in force and its words have these meanings.
+///
+/// Errors: the faults of the first step that has some (aliases, attributes, booleans and classes, forbidden rules), or out of memory.
+fn chosen_policy(
+    alloc: Global,
+    instances: &Instances,
+    names: &DeclaredNames,
+    permissions: &[Vec<Bytes>],
+    shared: &[Shared],
+    words: &Words,
+    chosen: Chosen,
+) -> Result<Compiled, Failure>
+    requires named { HaveNames (namespaces_in instances.now) names.now (items_in instances.now) permissions.now shared.now }
+    requires chosen { IsChosen (items_in instances.now) chosen }
+    requires table { IsTableOf (map (meanings (namespaces_in instances.now) names.now permissions.now (is_in chosen.enabled)) (items_in instances.now)) words.now }
+    ensures compiled { IfOk result (IsCompiledOf (items_in instances.now)) }
+    ensures faults { IfErr result (ItemsFail (items_in instances.now)) }
+{
     let lookup = Lookup {
         namespaces: instances.namespaces(),
-        names: &names,
+        names,
         enabled: &chosen.enabled,
     };
-    let words = settled(alloc, &names, asks, &chosen.enabled)?;
-    let tables = tables_of(
-        alloc,
-        instances,
-        &lookup,
-        &words,
-        permissions,
-        shared.as_slice(),
-    )?;
+    let tables = tables_of(alloc, instances, &lookup, words, permissions, shared)?;
     let optionals = optional_lines(alloc, instances, &chosen.enabled)?;
     let reasons = why_lines(alloc, instances, chosen.reasons.as_slice())?;
     let Chosen {
