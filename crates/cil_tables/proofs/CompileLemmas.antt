@@ -271,11 +271,15 @@ module _ (modules : List (List ℕ)) (xs : List Item) (are : AreItems modules xs
     reasons = of.reasons;
   }
 
--- ---- an error that is handed on
+-- ---- errors that are handed on, and results that are
 
 pub handed_on : {X : Type 0} (P : Failure → Type 0) (r : Result X Failure) (failure : Failure) → IsErrAnd r (λ e. e ≡ failure) → P failure → IfErr r P
 handed_on P (Ok x) failure is p = tt
 handed_on P (Err e) failure is p = subst P (sym is) p
+
+pub if_err : {X : Type 0} (P Q : Failure → Type 0) (r : Result X Failure) → ((failure : Failure) → P failure → Q failure) → IfErr r P → IfErr r Q
+if_err P Q (Ok x) step h = tt
+if_err P Q (Err e) step h = step e h
 
 -- ---- lists that rise by a name
 

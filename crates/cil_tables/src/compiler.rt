@@ -13,6 +13,7 @@ ghost use Rattle.cil_names.specs.PermissionWords.{meanings};
 ghost use Rattle.cil_names.specs.Rows.{IsTableOf};
 ghost use Rattle.cil_names.specs.Shared.{AreShared};
 ghost use Rattle.cil_names.specs.Unresolved.{ArePermissions};
+ghost use Rattle.cil_optionals.specs.Lines.{AreOptionalsOf, AreReasonsOf};
 ghost use Rattle.cil_tables.specs.CompileAnswer.{IsCompiled, IsCompiledOf, StandsIn};
 ghost use Rattle.cil_tables.specs.CompileSteps.{HaveNames, IsChosen};
 ghost use Rattle.cil_faults.specs.First.{AreFirst};
@@ -75,8 +76,7 @@ pub fn compile(alloc: Global, modules: &ModuleSet) -> Result<Compiled, Failure>
     // What is known of the statements of every program.
     program.statements();
     let stands = inherit(alloc, &program)?;
-    let compiled = standing_policy(alloc, &stands)?;
-    Ok(compiled)
+    standing_policy(alloc, &stands)
 }
 
 /// What all that stands compiles to.
@@ -92,8 +92,7 @@ fn standing_policy(alloc: Global, stands: &Spaces) -> Result<Compiled, Failure>
     let instances = expand(alloc, stands)?;
     // What is known of all that is placed.
     instances.called();
-    let compiled = placed_policy(alloc, &instances)?;
-    Ok(compiled)
+    placed_policy(alloc, &instances)
 }
 
 /// What all that is placed compiles to.
@@ -163,8 +162,8 @@ fn chosen_policy(
         enabled: &chosen.enabled,
     };
     let tables = tables_of(alloc, instances, &lookup, words, permissions, shared)?;
-    let optionals = optional_lines(alloc, instances, &chosen.enabled)?;
-    let reasons = why_lines(alloc, instances, chosen.reasons.as_slice())?;
+    let lines = lines_of(alloc, instances, &chosen)?;
+    let Lines { optionals, reasons } = lines;
     let Chosen {
         enabled: _,
         reasons: why,
@@ -175,6 +174,24 @@ fn chosen_policy(
         why,
         reasons,
     })
+}
+
+/// The lines of a choice of optionals: one for each optional, sorted, and one for each reason, in their order.
+#[derive(Drop)]
+struct Lines {
+    optionals: Vec<OptionalLine>,
+    reasons: Vec<WhyLine>,
+}
+
+/// The lines of a choice of optionals. Error: out of memory.
+fn lines_of(alloc: Global, instances: &Instances, chosen: &Chosen) -> Result<Lines, NoMemory>
+    requires { IsChosen (items_in instances.now) chosen.now }
+    ensures optionals { IfOk result (λ lines. AreOptionalsOf (items_in instances.now) (is_in chosen.now.enabled) lines.optionals.items) }
+    ensures reasons { IfOk result (λ lines. AreReasonsOf (items_in instances.now) chosen.now.reasons.items lines.reasons.items) }
+{
+    let optionals = optional_lines(alloc, instances, &chosen.enabled)?;
+    let reasons = why_lines(alloc, instances, chosen.reasons.as_slice())?;
+    Ok(Lines { optionals, reasons })
 }
 
 /// The tables of all that is placed, where its words have these meanings, and these are the classes and commons that statements

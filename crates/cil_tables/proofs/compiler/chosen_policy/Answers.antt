@@ -7,9 +7,6 @@ use Rattle.cil_names.specs.Numbers.{ArePlainNames}
 use Rattle.cil_names.specs.PermissionWords.{meanings}
 use Rattle.cil_names.specs.Rows.{IsTableOf}
 use Rattle.cil_names.specs.Unresolved.{ArePermissions}
-use Rattle.cil_optionals.specs.Certificate.{IsRight}
-use Rattle.cil_optionals.specs.Lines.{AreReasonsOf}
-use Rattle.cil_optionals.specs.declared.reason.Reason.{Reason}
 use Rattle.cil_tables.specs.CompileRefusal.{ItemsFail}
 use Rattle.cil_tables.proofs.CompileLemmas.{handed_on, later_first}
 use Rattle.cil_tables.proofs.compiler.chosen_policy.Goals as goal
@@ -35,21 +32,16 @@ tables_of-requires-clause-table c =
     subst (λ (z : List Space). IsTableOf (map (meanings z c.args.names.now c.args.permissions.now (is_in c.args.chosen.enabled)) (items_in c.args.instances.now)) c.args.words.now)
     (sym c.namespaces.ensures.value) c.requires.table
 
-pub why_lines-requires : goal.why_lines-requires
-why_lines-requires c = record {
-  right = (is_in c.args.chosen.enabled, subst (IsRight (items_in c.args.instances.now) (is_in c.args.chosen.enabled)) (sym c.as_slice.ensures.value) c.requires.chosen.right);
-}
+pub lines_of-requires : goal.lines_of-requires
+lines_of-requires c = c.requires.chosen
 
 pub returns-in_err-tables-clause-faults : goal.returns-in_err-tables-clause-faults
 returns-in_err-tables-clause-faults c =
     handed_on (ItemsFail (items_in c.args.instances.now)) _ _ c.from_residual.ensures.1
     (later_first (items_in c.args.instances.now) c.requires.named.apart (is_in c.args.chosen.enabled) c.requires.chosen.greatest c.requires.chosen.words _ c.in_err-tables.ensures.faults)
 
-pub returns-in_err-optionals-clause-faults : goal.returns-in_err-optionals-clause-faults
-returns-in_err-optionals-clause-faults c = handed_on (ItemsFail (items_in c.args.instances.now)) _ NoMemory c.from_residual-in_err-optionals.ensures.1 tt
-
-pub returns-in_err-reasons-clause-faults : goal.returns-in_err-reasons-clause-faults
-returns-in_err-reasons-clause-faults c = handed_on (ItemsFail (items_in c.args.instances.now)) _ NoMemory c.from_residual-in_err-reasons.ensures.1 tt
+pub returns-in_err-lines-clause-faults : goal.returns-in_err-lines-clause-faults
+returns-in_err-lines-clause-faults c = handed_on (ItemsFail (items_in c.args.instances.now)) _ NoMemory c.from_residual-in_err-lines.ensures.1 tt
 
 pub returns-clause-compiled : goal.returns-clause-compiled
 returns-clause-compiled c = record {
@@ -58,8 +50,8 @@ returns-clause-compiled c = record {
   apart = c.requires.named.apart;
   no_faults = inr (c.requires.chosen.words, c.in_ok-tables.ensures.tables.1);
   table = c.in_ok-tables.ensures.tables.0;
-  optionals = c.in_ok-optionals.ensures;
+  optionals = c.in_ok-lines.ensures.optionals;
   right = c.requires.chosen.right;
   first = c.requires.chosen.first;
-  reasons = subst (λ (rs : List Reason). AreReasonsOf (items_in c.args.instances.now) rs c.in_ok-reasons.reasons.items) c.as_slice.ensures.value c.in_ok-reasons.ensures;
+  reasons = c.in_ok-lines.ensures.reasons;
 }

@@ -1,9 +1,11 @@
 use Rattle.std.proofs.Common.{List, ℕ}
 use Rattle.cil_faults.specs.declared.failure.Failure.{Failure}
 use Rattle.cil_macros.specs.Items.{items_in, namespaces_in}
-use Rattle.cil_tables.specs.CompileAnswer.{StandsIn}
-use Rattle.cil_tables.specs.CompileRefusal.{CompileFails}
-use Rattle.cil_tables.proofs.CompileLemmas.{calls_fail, compiled_modules, handed_on, items_fail, its_items, its_names, whole_front}
+use Rattle.cil_blocks.proofs.DoubledLemmas.{if_ok}
+use Rattle.cil_tables.specs.declared.compiler.Compiled.{Compiled}
+use Rattle.cil_tables.specs.CompileAnswer.{IsCompiled, IsCompiledOf, StandsIn}
+use Rattle.cil_tables.specs.CompileRefusal.{CompileFails, ItemsFail}
+use Rattle.cil_tables.proofs.CompileLemmas.{calls_fail, compiled_modules, handed_on, if_err, items_fail, its_items, its_names, whole_front}
 use Rattle.cil_tables.proofs.PlainLemmas.{plain_names}
 use Rattle.cil_tables.proofs.compiler.standing_policy.Goals as goal
 
@@ -18,19 +20,22 @@ returns-in_err-instances-clause-faults c =
     handed_on (λ (failure : Failure). (modules : List (List ℕ)) → StandsIn modules s → CompileFails modules failure) _ _ c.from_residual.ensures.1
     (λ modules stands. calls_fail modules s stands _ c.in_err-instances.ensures)
 
-pub returns-in_err-compiled-clause-faults : goal.returns-in_err-compiled-clause-faults
-returns-in_err-compiled-clause-faults c =
+pub returns-clause-faults : goal.returns-clause-faults
+returns-clause-faults c =
     let s = c.args.stands.now in
     let i = c.in_ok-instances.instances in
-    handed_on (λ (failure : Failure). (modules : List (List ℕ)) → StandsIn modules s → CompileFails modules failure) _ _ c.from_residual-in_err-compiled.ensures.1
-    (λ modules stands. items_fail modules (items_in i) (its_items modules s stands i c.in_ok-instances.ensures.0 c.called.ensures.placed)
-    (whole_front modules s stands c.in_ok-instances.ensures.1) _ c.in_err-compiled.ensures.faults)
+    if_err (ItemsFail (items_in i)) (λ (failure : Failure). (modules : List (List ℕ)) → StandsIn modules s → CompileFails modules failure) c.placed_policy.result
+    (λ failure fails modules stands. items_fail modules (items_in i) (its_items modules s stands i c.in_ok-instances.ensures.0 c.called.ensures.placed)
+    (whole_front modules s stands c.in_ok-instances.ensures.1) failure fails)
+    c.placed_policy.ensures.faults
 
 pub returns-clause-compiled : goal.returns-clause-compiled
-returns-clause-compiled c = λ modules stands.
+returns-clause-compiled c =
     let s = c.args.stands.now in
     let i = c.in_ok-instances.instances in
-    compiled_modules modules (items_in i) (its_items modules s stands i c.in_ok-instances.ensures.0 c.called.ensures.placed)
+    if_ok (IsCompiledOf (items_in i)) (λ (compiled : Compiled). (modules : List (List ℕ)) → StandsIn modules s → IsCompiled modules compiled) c.placed_policy.result
+    (λ compiled is modules stands. compiled_modules modules (items_in i) (its_items modules s stands i c.in_ok-instances.ensures.0 c.called.ensures.placed)
     (whole_front modules s stands c.in_ok-instances.ensures.1)
     (its_names s c.requires.standings c.requires.nested i c.in_ok-instances.ensures.0 c.called.ensures.placed)
-    _ c.in_ok-compiled.ensures.compiled
+    compiled is)
+    c.placed_policy.ensures.compiled
