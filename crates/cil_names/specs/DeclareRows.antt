@@ -108,9 +108,9 @@ abbrev pub all_bare_there : Kept → ReadAt → List rust.Term → Terms Bare
 all_bare_there i r ts = bare_terms r.«module» (word_at i r.at) ts
 
 -- there are such instances
-pub record AreThere (c : Comparison) : Type 0 where
-  pub one : c.one.at < length (items_in c.instances.now)
-  pub other : c.other.at < length (items_in c.instances.now)
+pub record AreThere (i : Kept) (c : Comparison) : Type 0 where
+  pub one : c.one.at < length (items_in i)
+  pub other : c.other.at < length (items_in i)
 
 -- the instance at a place says what is written, each word as a word
 pub record SaysWritten (i : Kept) (k : ℕ) : Type 0 where

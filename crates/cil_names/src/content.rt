@@ -24,8 +24,7 @@ pub struct ReadAt {
 
 /// Two instances whose terms are compared.
 #[derive(Clone, Copy)]
-pub struct Comparison<'i, 's, 'p, 'a> {
-    pub instances: &'i Instances<'s, 'p, 'a>,
+pub struct Comparison {
     pub one: ReadAt,
     pub other: ReadAt,
 }
@@ -34,18 +33,19 @@ pub struct Comparison<'i, 's, 'p, 'a> {
 #[cycle(a)]
 pub fn is_same_content<'a>(
     alloc: Global,
-    both: &Comparison<'_, '_, '_, 'a>,
+    instances: &Instances<'_, '_, 'a>,
+    both: &Comparison,
     a: &[Term<'a>],
     b: &[Term<'a>],
 ) -> Result<bool, NoMemory>
-    requires { AreThere both.now }
-    ensures { IfOk result (λ same. IsTrue same ↔ (all_bare_there both.now.instances.now both.now.one a.now ≡ all_bare_there both.now.instances.now both.now.other b.now)) }
+    requires { AreThere instances.now both.now }
+    ensures { IfOk result (λ same. IsTrue same ↔ (all_bare_there instances.now both.now.one a.now ≡ all_bare_there instances.now both.now.other b.now)) }
 {
     if a.len() != b.len() {
         return Ok(false);
     }
     for i in 0..a.len() {
-        if !is_same_term(alloc, both, &a[i], &b[i])? {
+        if !is_same_term(alloc, instances, both, &a[i], &b[i])? {
             return Ok(false);
         }
     }
@@ -55,16 +55,17 @@ pub fn is_same_content<'a>(
 #[cycle(a)]
 fn is_same_term<'a>(
     alloc: Global,
-    both: &Comparison<'_, '_, '_, 'a>,
+    instances: &Instances<'_, '_, 'a>,
+    both: &Comparison,
     a: &Term<'a>,
     b: &Term<'a>,
 ) -> Result<bool, NoMemory>
-    requires { AreThere both.now }
-    ensures { IfOk result (λ same. IsTrue same ↔ (bare_there both.now.instances.now both.now.one a.now ≡ bare_there both.now.instances.now both.now.other b.now)) }
+    requires { AreThere instances.now both.now }
+    ensures { IfOk result (λ same. IsTrue same ↔ (bare_there instances.now both.now.one a.now ≡ bare_there instances.now both.now.other b.now)) }
 {
     match a {
         Term::Leaf(word) => match b {
-            Term::Leaf(other) => is_same_word(alloc, both, word, other),
+            Term::Leaf(other) => is_same_word(alloc, instances, both, word, other),
             Term::Name(_, _) => Ok(false),
             Term::Form(_, _, _) => Ok(false),
         },
@@ -80,7 +81,7 @@ fn is_same_term<'a>(
                 if !is_same_op(*op, *other) {
                     return Ok(false);
                 }
-                is_same_content(alloc, both, parts.as_slice(), rest.as_slice())
+                is_same_content(alloc, instances, both, parts.as_slice(), rest.as_slice())
             }
         },
     }
@@ -89,17 +90,18 @@ fn is_same_term<'a>(
 /// Whether two words say the same, each at its instance.
 fn is_same_word<'a>(
     alloc: Global,
-    both: &Comparison<'_, '_, '_, 'a>,
+    instances: &Instances<'_, '_, 'a>,
+    both: &Comparison,
     a: &LookedUp<'a>,
     b: &LookedUp<'a>,
 ) -> Result<bool, NoMemory>
-    requires { AreThere both.now }
-    ensures { IfOk result (λ same. IsTrue same ↔ (bare (word_at both.now.instances.now both.now.one.at (word_in both.now.one.«module» a.now))
-        ≡ bare (word_at both.now.instances.now both.now.other.at (word_in both.now.other.«module» b.now)))) }
+    requires { AreThere instances.now both.now }
+    ensures { IfOk result (λ same. IsTrue same ↔ (bare (word_at instances.now both.now.one.at (word_in both.now.one.«module» a.now))
+        ≡ bare (word_at instances.now both.now.other.at (word_in both.now.other.«module» b.now)))) }
 {
-    let here = word_there(both.instances, both.one, a);
-    let there = word_there(both.instances, both.other, b);
-    is_same_placed(alloc, both.instances, &here, &there)
+    let here = word_there(instances, both.one, a);
+    let there = word_there(instances, both.other, b);
+    is_same_placed(alloc, instances, &here, &there)
 }
 
 /// Whether two words have the same bytes, want the same and are looked up in the same namespaces.

@@ -11,7 +11,7 @@ ghost use Rattle.cil_names.specs.Faults.{ClashFault};
 use crate::clash::clashes;
 use crate::entry::Entry;
 use crate::names::Names;
-use crate::row::{Row, rows_of};
+use crate::row::{Row, is_outside, round_of, rows_of};
 use crate::run::{Run, runs_of, sorted_rows};
 use cil_base::NoMemory;
 use cil_macros::Instances;
@@ -79,7 +79,7 @@ fn entry_of<'a>(
 fn any_always(instances: &Instances, rows: &[Row]) -> bool
     ensures { result ≡ list_any (is_always instances.now) rows.now }
 {
-    rows.iter().any(|row| row.is_outside(instances))
+    rows.iter().any(|row| is_outside(instances, row))
 }
 
 /// The optionals round the declarations of rows, where there are some.
@@ -105,9 +105,9 @@ fn push_round(
 ) -> Result<(), NoMemory>
     ensures { OnOk result (map (λ round. round.items) rounds.new.items ≡ map (λ round. round.items) rounds.old.items ++ rounds_by instances.now row.now) }
 {
-    if row.is_outside(instances) {
+    if is_outside(instances, row) {
         return Ok(());
     }
-    rounds.push(row.round(alloc, instances)?)?;
+    rounds.push(round_of(alloc, instances, row)?)?;
     Ok(())
 }

@@ -98,24 +98,24 @@ impl Row<'_> {
             .then(self.kind.rank().cmp(&other.kind.rank()))
             .then(self.space.cmp(&other.space))
     }
+}
 
-    /// Whether the declaring instance is in no optional.
-    pub fn is_outside(&self, instances: &Instances) -> bool
-        ensures { result ≡ is_always instances.now self.now }
-    {
-        match self.at {
-            Some(at) => instances.is_outside(at),
-            None => true,
-        }
+/// Whether the declaring instance of a row is in no optional.
+pub fn is_outside(instances: &Instances, row: &Row) -> bool
+    ensures { result ≡ is_always instances.now row.now }
+{
+    match row.at {
+        Some(at) => instances.is_outside(at),
+        None => true,
     }
+}
 
-    /// The numbers of the optionals round the declaring instance.
-    pub fn round(&self, alloc: Global, instances: &Instances) -> Result<Vec<usize>, NoMemory>
-        ensures { IfOk result (λ round. round.items ≡ round_at instances.now self.now.at) }
-    {
-        match self.at {
-            Some(at) => instances.round(alloc, at),
-            None => Ok(Vec::new(alloc)),
-        }
+/// The numbers of the optionals round the declaring instance of a row.
+pub fn round_of(alloc: Global, instances: &Instances, row: &Row) -> Result<Vec<usize>, NoMemory>
+    ensures { IfOk result (λ round. round.items ≡ round_at instances.now row.now.at) }
+{
+    match row.at {
+        Some(at) => instances.round(alloc, at),
+        None => Ok(Vec::new(alloc)),
     }
 }

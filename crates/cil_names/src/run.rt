@@ -233,11 +233,10 @@ fn is_same_there<'a>(
     let one = behind_name(instances, a);
     let other = behind_name(instances, b);
     let both = Comparison {
-        instances,
         one: one.reading,
         other: other.reading,
     };
-    is_same_content(alloc, &both, one.terms, other.terms)
+    is_same_content(alloc, instances, &both, one.terms, other.terms)
 }
 
 /// Terms, and where they are read.

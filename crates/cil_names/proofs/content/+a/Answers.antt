@@ -64,7 +64,7 @@ is_same_term-returns-then-not-is_same_op t c =
 pub is_same_term-returns-else-not-is_same_op : goal.is_same_term-returns-else-not-is_same_op
 is_same_term-returns-else-not-is_same_op t c =
     let both = c.args.both.now in
-    let here : List Term → Terms Bare = all_bare_there both.instances.now both.one in
-    let there : List Term → Terms Bare = all_bare_there both.instances.now both.other in
+    let here : List Term → Terms Bare = all_bare_there c.args.instances.now both.one in
+    let there : List Term → Terms Bare = all_bare_there c.args.instances.now both.other in
     ok_so _ _ c.is_same_content.result (λ same tells. forms_tell _ _ _ _ _ _ _ _ _ _ _ _ same c.in-Form.is c.in-Form-b-3.is (c.is_same_op.ensures.0 c.if-not-is_same_op.false)
     (tells_of same _ _ _ _ (ap here (sym c.as_slice-in-Form-b-3.ensures.value)) (ap there (sym c.as_slice-in-Form-b-3-2.ensures.value)) tells)) c.is_same_content.ensures

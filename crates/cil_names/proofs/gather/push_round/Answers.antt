@@ -7,4 +7,4 @@ returns-then-is_outside c = no_round c.args.instances.now c.args.row.now _ _ c.i
 
 pub returns : goal.returns
 returns c =
-    one_round c.args.instances.now c.args.row.now _ _ _ _ _ c.is_outside.ensures c.if-is_outside.false c.in_ok-round.ensures refl c.in_ok-push.ensures.items
+    one_round c.args.instances.now c.args.row.now _ _ _ _ _ c.is_outside.ensures c.if-is_outside.false c.in_ok-round_of.ensures refl c.in_ok-push.ensures.items

@@ -3,7 +3,7 @@ use Rattle.cil_macros.specs.Items.{item_at}
 use Rattle.cil_names.specs.DeclareRows.{round_at}
 use Rattle.cil_names.specs.DeclareRuns.{has_none, is_always}
 use Rattle.cil_names.proofs.DeclareEntryLemmas.{none_told}
-use Rattle.cil_names.proofs.row.Row.is_outside.Goals as goal
+use Rattle.cil_names.proofs.row.is_outside.Goals as goal
 
 pub returns-in-Some : goal.returns-in-Some
 unfolding is_always
