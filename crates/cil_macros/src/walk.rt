@@ -65,15 +65,34 @@ impl Brought {
         ensures all { IfOk result (λ all. all ≡ true → AreAllBrought source.now.spaces.now limit self.new) }
         ensures many { IfOk result (λ all. all ≡ false → IsOver placed_cmp (IsPlaced (written_in source.now.spaces.now) (all_standing source.now.spaces.now)) limit) }
     {
-        let standing = source.spaces.entries().len();
         let mut scope = ScopeList::new(alloc);
         let mut own = ScopeList::new(alloc);
+        self.open_from(alloc, source, limit, &mut scope, &mut own)
+    }
+
+    /// The same, with room for two scopes.
+    fn open_from(
+        &mut self,
+        alloc: Global,
+        source: &Source,
+        limit: usize,
+        scope: &mut ScopeList,
+        own: &mut ScopeList,
+    ) -> Result<bool, NoMemory>
+        requires source { IsSource source.now }
+        requires brought { AreBrought source.now.spaces.now self.old }
+        requires empty { self.old.entries.items ≡ [] }
+        requires bodiless { self.old.bodies.items ≡ [] }
+        ensures all { IfOk result (λ all. all ≡ true → AreAllBrought source.now.spaces.now limit self.new) }
+        ensures many { IfOk result (λ all. all ≡ false → IsOver placed_cmp (IsPlaced (written_in source.now.spaces.now) (all_standing source.now.spaces.now)) limit) }
+    {
+        let standing = source.spaces.entries().len();
         let mut at = 0;
         while at < standing + self.entries.len() {
             if standing + self.entries.len() > limit {
                 return Ok(false);
             }
-            self.open(alloc, source, at, &mut scope, &mut own)?;
+            self.open(alloc, source, at, scope, own)?;
             at += 1;
         }
         Ok(true)

@@ -1,7 +1,7 @@
 use Rattle.std.proofs.Common.{◌≡◌, ap, arith, false, length, sym, true}
 use Rattle.cil_macros.proofs.TurnLemmas.{all_in_turn, none_in_turn}
 use Rattle.cil_macros.proofs.WalkLemmas.{all_reached, begun, gone_on, over_reached}
-use Rattle.cil_macros.proofs.chain.Brought.open_all.Goals as goal
+use Rattle.cil_macros.proofs.chain.Brought.open_from.Goals as goal
 
 never : true ≡ false → ⊥
 never e = cc

@@ -1,7 +1,7 @@
 use Rattle.std.proofs.Common.{◌-◌, ◌+◌, ◌≤◌}
 use Rattle.cil_macros.specs.Walks.{AreBrought, AreInTurn}
 use Rattle.cil_macros.proofs.WalkLemmas.{AreReached}
-use Rattle.cil_macros.proofs.chain.Brought.open_all.Given as goal
+use Rattle.cil_macros.proofs.chain.Brought.open_from.Given as goal
 
 abbrev pub invariant-loop-at : goal.invariant-loop-at
 invariant-loop-at l =
