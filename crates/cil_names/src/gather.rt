@@ -79,7 +79,12 @@ fn entry_of<'a>(
 fn any_always(instances: &Instances, rows: &[Row]) -> bool
     ensures { result ≡ list_any (is_always instances.now) rows.now }
 {
-    rows.iter().any(|row| is_outside(instances, row))
+    for row in rows {
+        if is_outside(instances, row) {
+            return true;
+        }
+    }
+    false
 }
 
 /// The optionals round the declarations of rows, where there are some.

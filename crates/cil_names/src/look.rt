@@ -30,12 +30,12 @@ pub fn are_numbers(namespaces: &Namespaces, numbers: &[usize]) -> bool
 /// Adds the numbers of the entries that a word could name, whatever is enabled, in the order of its scope. A word that wants
 /// no kind, as a permission, costs nothing.
 pub fn push_candidates(
-    found: &mut Vec<usize>,
     namespaces: &Namespaces,
     entries: &[Entry],
     guesses: &Guesses,
     word: &Word,
     scope: &[usize],
+    found: &mut Vec<usize>,
 ) -> Result<(), NoMemory>
     requires entries { AreOrdered namespaces.now entries.now }
     requires within { All (λ k. k ≤ length namespaces.now) scope.now }

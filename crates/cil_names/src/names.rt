@@ -132,12 +132,12 @@ impl<'a> Names<'a> {
     {
         let mut found = Vec::new(alloc);
         push_candidates(
-            &mut found,
             namespaces,
             self.entries(),
             self.guesses(),
             word,
             scope,
+            &mut found,
         )?;
         Ok(found)
     }
@@ -167,12 +167,12 @@ impl<'a> Names<'a> {
         ensures none_lost { length found.old.items ≤ length found.new.items }
     {
         push_in_scope(
-            found,
             namespaces,
             self.entries(),
             self.guesses(),
             word,
             scope,
+            found,
         )
     }
 

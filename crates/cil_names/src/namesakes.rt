@@ -58,8 +58,12 @@ fn end_from(entries: &[Entry], first: usize, name: &[u8], rank: u8) -> Option<us
     requires { IsNamedAt entries.now (record { name = name.now; rank = rank }) first }
     ensures { IfSome result (IsEnd entries.now (record { name = name.now; rank = rank }) first) }
 {
-    let behind = first.checked_add(1)?;
-    let limit = behind.checked_add(FEW)?;
+    let Some(behind) = first.checked_add(1) else {
+        return None;
+    };
+    let Some(limit) = behind.checked_add(FEW) else {
+        return None;
+    };
     for end in behind..limit {
         if !is_named(entries, end, name, rank) {
             return Some(end);

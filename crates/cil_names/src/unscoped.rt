@@ -39,12 +39,12 @@ pub fn unscoped_entry(entries: &[Entry], guesses: &Guesses, word: &Word) -> Opti
 /// Adds the numbers of the entries that a word could name, whatever is enabled, in the order of its scope. A longer scope is asked
 /// once where one entry has the name of a word without dots; else it is gone through.
 pub fn push_in_scope(
-    found: &mut Vec<usize>,
     namespaces: &Namespaces,
     entries: &[Entry],
     guesses: &Guesses,
     word: &Word,
     scope: &ScopeList,
+    found: &mut Vec<usize>,
 ) -> Result<(), NoMemory>
     requires entries { AreOrdered namespaces.now entries.now }
     requires within { All (λ k. k ≤ length namespaces.now) scope.now }
@@ -57,7 +57,7 @@ pub fn push_in_scope(
             return push_listed(found, one_in(namespaces, entries, place, word, scope));
         }
     }
-    push_candidates(found, namespaces, entries, guesses, word, numbers)
+    push_candidates(namespaces, entries, guesses, word, numbers, found)
 }
 
 /// The number of the entry at a place, which alone has the name of a word, if the word could name it in a scope.
@@ -93,12 +93,16 @@ fn sole_word(entries: &[Entry], guesses: &Guesses, word: &Word) -> Option<usize>
     requires { IsStrictlySortedBy (on key_of by_name_cmp) entries.now }
     ensures { IfSome result (IsSoleOf entries.now word.now) }
 {
-    let rank = word.sign.rank()?;
+    let Some(rank) = word.sign.rank() else {
+        return None;
+    };
     let name = word.bytes.as_slice();
     if parted(name).is_some() {
         return None;
     }
-    let same = few_named(entries, guesses, name, rank)?;
+    let Some(same) = few_named(entries, guesses, name, rank) else {
+        return None;
+    };
     if same.end - same.first != 1 {
         return None;
     }

@@ -65,85 +65,109 @@ pub fn asks_of<'r, 'a>(
         names,
         permissions,
         worded: worded.as_slice(),
-        instances,
     };
-    maker.table()
+    table(&*instances, &maker)
 }
 
-/// What a table is made by.
+/// What a table is made by, beside the instances.
 #[derive(Clone, Copy)]
-struct Maker<'r, 's, 'p, 'a> {
+struct Maker<'r, 'a> {
     alloc: Global,
     names: &'r Names<'a>,
     permissions: &'r [Vec<Bytes>],
     /// For each written statement whether it has words.
     worded: &'r [bool],
-    instances: &'r Instances<'s, 'p, 'a>,
 }
 
-impl Maker<'_, '_, '_, '_> {
-    /// The table of all that is placed.
-    fn table(&self) -> Result<Asks, NoMemory>
-        requires entries { AreEntries (namespaces_in self.now.instances.now) (items_in self.now.instances.now) self.now.names.now }
-        requires permissions { ArePermissions (namespaces_in self.now.instances.now) self.now.names.now (items_in self.now.instances.now) self.now.permissions.now }
-        requires worded { AreWorded self.now.instances.now self.now.worded.now }
-        ensures { IfOk result (AreNumberedAsks (namespaces_in self.now.instances.now) self.now.names.now (items_in self.now.instances.now) self.now.permissions.now) }
-    {
-        let mut starts = Vec::with_capacity(self.alloc, self.instances.len())?;
-        let mut cells = Cells::new(self.alloc);
-        self.fill(&mut starts, &mut cells)?;
-        Ok(Asks { starts, cells })
-    }
+/// The table of all that is placed.
+fn table<'r, 'a>(
+    instances: &'r Instances<'_, '_, 'a>,
+    maker: &Maker<'r, 'a>,
+) -> Result<Asks, NoMemory>
+    requires entries { AreEntries (namespaces_in instances.now) (items_in instances.now) maker.now.names.now }
+    requires permissions { ArePermissions (namespaces_in instances.now) maker.now.names.now (items_in instances.now) maker.now.permissions.now }
+    requires worded { AreWorded instances.now maker.now.worded.now }
+    ensures { IfOk result (AreNumberedAsks (namespaces_in instances.now) maker.now.names.now (items_in instances.now) maker.now.permissions.now) }
+{
+    let mut starts = Vec::with_capacity(maker.alloc, instances.len())?;
+    let mut cells = Cells::new(maker.alloc);
+    fill(instances, maker, &mut starts, &mut cells)?;
+    Ok(Asks { starts, cells })
+}
 
-    /// Adds a row for each instance, and where it begins.
-    fn fill(&self, starts: &mut Vec<u32>, cells: &mut Cells) -> Result<(), NoMemory>
-        requires entries { AreEntries (namespaces_in self.now.instances.now) (items_in self.now.instances.now) self.now.names.now }
-        requires permissions { ArePermissions (namespaces_in self.now.instances.now) self.now.names.now (items_in self.now.instances.now) self.now.permissions.now }
-        requires worded { AreWorded self.now.instances.now self.now.worded.now }
-        requires none { starts.old.items ≡ [] }
-        ensures rows { OnOk result (AreNumberedAsks (namespaces_in self.now.instances.now) self.now.names.now (items_in self.now.instances.now) self.now.permissions.now (lists_at starts.new.items cells.new)) }
-        ensures within { OnOk result (AreWithin (length cells.new) starts.new.items) }
-    {
-        let mut scopes = Scopes::new(self.alloc);
-        for at in 0..self.instances.len() {
-            self.add(at, &mut scopes, starts, cells)?;
-        }
-        Ok(())
-    }
+/// Adds a row for each instance, and where it begins.
+fn fill<'r, 'a>(
+    instances: &'r Instances<'_, '_, 'a>,
+    maker: &Maker<'r, 'a>,
+    starts: &mut Vec<u32>,
+    cells: &mut Cells,
+) -> Result<(), NoMemory>
+    requires entries { AreEntries (namespaces_in instances.now) (items_in instances.now) maker.now.names.now }
+    requires permissions { ArePermissions (namespaces_in instances.now) maker.now.names.now (items_in instances.now) maker.now.permissions.now }
+    requires worded { AreWorded instances.now maker.now.worded.now }
+    requires none { starts.old.items ≡ [] }
+    ensures rows { OnOk result (AreNumberedAsks (namespaces_in instances.now) maker.now.names.now (items_in instances.now) maker.now.permissions.now (lists_at starts.new.items cells.new)) }
+    ensures within { OnOk result (AreWithin (length cells.new) starts.new.items) }
+{
+    let mut scopes = Scopes::new(maker.alloc);
+    fill_by(instances, maker, &mut scopes, starts, cells)
+}
 
-    /// Adds what the statement at a place asks for, and where that begins. It needs a scope only where there are words.
-    fn add(
-        &self,
-        at: usize,
-        scopes: &mut Scopes,
-        starts: &mut Vec<u32>,
-        cells: &mut Cells,
-    ) -> Result<(), NoMemory>
-        requires entries { AreEntries (namespaces_in self.now.instances.now) (items_in self.now.instances.now) self.now.names.now }
-        requires permissions { ArePermissions (namespaces_in self.now.instances.now) self.now.names.now (items_in self.now.instances.now) self.now.permissions.now }
-        requires worded { AreWorded self.now.instances.now self.now.worded.now }
-        requires scopes { AreScopes self.now.instances.now scopes.old }
-        requires within { at < length (items_in self.now.instances.now) }
-        ensures starts { OnOk result (starts.new.items ≡ starts.old.items ++ length cells.old ∷ []) }
-        ensures asks { OnOk result (cells.new ≡ cells.old ++ numbered_asks (namespaces_in self.now.instances.now) self.now.names.now (items_in self.now.instances.now) self.now.permissions.now (item_at self.now.instances.now at)) }
-        ensures scopes { OnOk result (AreScopes self.now.instances.now scopes.new) }
-    {
-        push_number(starts, cells.len())?;
-        if !is_worded_at(self.instances, self.worded, at) {
-            return Ok(());
-        }
-        let walk = Walk {
-            alloc: self.alloc,
-            names: self.names,
-            permissions: self.permissions,
-            reading: Reading {
-                instances: self.instances,
-                at,
-                statement: self.instances.statement_there(at),
-            },
-        };
-        walk.statement(cells, scopes)
+/// The same, with room for scopes.
+fn fill_by<'r, 'a>(
+    instances: &'r Instances<'_, '_, 'a>,
+    maker: &Maker<'r, 'a>,
+    scopes: &mut Scopes,
+    starts: &mut Vec<u32>,
+    cells: &mut Cells,
+) -> Result<(), NoMemory>
+    requires entries { AreEntries (namespaces_in instances.now) (items_in instances.now) maker.now.names.now }
+    requires permissions { ArePermissions (namespaces_in instances.now) maker.now.names.now (items_in instances.now) maker.now.permissions.now }
+    requires worded { AreWorded instances.now maker.now.worded.now }
+    requires scopes { AreScopes instances.now scopes.old }
+    requires none { starts.old.items ≡ [] }
+    ensures rows { OnOk result (AreNumberedAsks (namespaces_in instances.now) maker.now.names.now (items_in instances.now) maker.now.permissions.now (lists_at starts.new.items cells.new)) }
+    ensures within { OnOk result (AreWithin (length cells.new) starts.new.items) }
+{
+    for at in 0..instances.len() {
+        add(instances, maker, at, scopes, starts, cells)?;
     }
+    Ok(())
+}
+
+/// Adds what the statement at a place asks for, and where that begins. It needs a scope only where there are words.
+fn add<'r, 'a>(
+    instances: &'r Instances<'_, '_, 'a>,
+    maker: &Maker<'r, 'a>,
+    at: usize,
+    scopes: &mut Scopes,
+    starts: &mut Vec<u32>,
+    cells: &mut Cells,
+) -> Result<(), NoMemory>
+    requires entries { AreEntries (namespaces_in instances.now) (items_in instances.now) maker.now.names.now }
+    requires permissions { ArePermissions (namespaces_in instances.now) maker.now.names.now (items_in instances.now) maker.now.permissions.now }
+    requires worded { AreWorded instances.now maker.now.worded.now }
+    requires scopes { AreScopes instances.now scopes.old }
+    requires within { at < length (items_in instances.now) }
+    ensures starts { OnOk result (starts.new.items ≡ starts.old.items ++ length cells.old ∷ []) }
+    ensures asks { OnOk result (cells.new ≡ cells.old ++ numbered_asks (namespaces_in instances.now) maker.now.names.now (items_in instances.now) maker.now.permissions.now (item_at instances.now at)) }
+    ensures scopes { OnOk result (AreScopes instances.now scopes.new) }
+{
+    push_number(starts, cells.len())?;
+    if !is_worded_at(instances, maker.worded, at) {
+        return Ok(());
+    }
+    let walk = Walk {
+        alloc: maker.alloc,
+        names: maker.names,
+        permissions: maker.permissions,
+        reading: Reading {
+            instances,
+            at,
+            statement: instances.statement_there(at),
+        },
+    };
+    walk.statement(cells, scopes)
 }
 
 impl Asks {

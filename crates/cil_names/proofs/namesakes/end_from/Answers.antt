@@ -5,8 +5,8 @@ use Rattle.cil_names.proofs.namesakes.end_from.Goals as goal
 
 pub loop-end-init : goal.loop-end-init
 loop-end-init c =
-    let at : c.args.first + 1 ≡ c.in_ok-behind.behind = search (rules, arith) in
-    (omega (arith, at), one_named c.args.entries.now _ c.args.first c.in_ok-behind.behind at c.requires)
+    let at : c.args.first + 1 ≡ c.in-Some.behind = search (rules, arith) in
+    (omega (arith, at), one_named c.args.entries.now _ c.args.first c.in-Some.behind at c.requires)
 
 pub loop-end-preserved : goal.loop-end-preserved
 loop-end-preserved c =

@@ -6,20 +6,19 @@ use Rattle.cil_macros.proofs.ItemLemmas.{item_got}
 use Rattle.cil_names.specs.Rows.{lists_at}
 use Rattle.cil_words.specs.Table.{numbered_asks}
 use Rattle.cil_names.proofs.RowLemmas.{more_within, no_rows, none_within, pushed_list}
-use Rattle.cil_words.proofs.ScopeLemmas.{none_filled}
-use Rattle.cil_words.proofs.asks.Maker.fill.Goals as goal
+use Rattle.cil_words.proofs.asks.fill_by.Goals as goal
 
 pub loop-at-init : goal.loop-at-init
 loop-at-init c = (
   no_rows c.args.starts.now.items c.args.cells.now c.requires.none,
   none_within c.args.starts.now.items (length c.args.cells.now) c.requires.none,
-  none_filled c.args.self.now.instances.now c.new-scopes.result c.new-scopes.ensures.own c.new-scopes.ensures.other,
+  c.requires.scopes,
 )
 
 pub loop-at-preserved : goal.loop-at-preserved
 loop-at-preserved c =
-    let k = c.args.self.now in
-    let i = k.instances.now in
+    let k = c.args.maker.now in
+    let i = c.args.instances.now in
     let xs = items_in i in
     let f = numbered_asks (namespaces_in i) k.names.now xs k.permissions.now in
     let at = c.loop-at.at in
@@ -35,8 +34,8 @@ loop-at-preserved c =
 
 pub returns-clause-rows : goal.returns-clause-rows
 returns-clause-rows c =
-    let k = c.args.self.now in
-    let i = k.instances.now in
+    let k = c.args.maker.now in
+    let i = c.args.instances.now in
     let xs = items_in i in
     let over : length xs ≤ c.loop-at.at = let h = c.loop-at-test.false in let n = c.len-at-end.ensures.items in omega (arith, h, n) in
     c.loop-at.invariant.0 ∙ ap (map (numbered_asks (namespaces_in i) k.names.now xs k.permissions.now)) (take_all c.loop-at.at xs over)
