@@ -30,7 +30,7 @@ use std::alloc::Global;
 impl<'r, 's, 'p, 'a> Walk<'r, 's, 'p, 'a> {
     /// Adds the lists of a class word and of permissions behind it.
     pub fn class_permissions(
-        &self,
+        &'r self,
         cells: &mut Cells,
         scopes: &mut Scopes,
         class: &PlacedWord,
@@ -47,7 +47,7 @@ impl<'r, 's, 'p, 'a> Walk<'r, 's, 'p, 'a> {
 
     /// Adds the lists of permissions of a class that was found.
     fn placed_permissions(
-        &self,
+        &'r self,
         cells: &mut Cells,
         found: Option<Class<'_>>,
         permissions: &[PlacedWord],
@@ -65,7 +65,7 @@ impl<'r, 's, 'p, 'a> Walk<'r, 's, 'p, 'a> {
 
     /// Adds the list of a permission of a class that was found.
     fn placed_permission(
-        &self,
+        &'r self,
         cells: &mut Cells,
         found: Option<Class<'_>>,
         permission: &PlacedWord,
@@ -82,7 +82,7 @@ impl<'r, 's, 'p, 'a> Walk<'r, 's, 'p, 'a> {
 
     /// Adds the lists of a class word and of the permissions behind it.
     pub fn class_list(
-        &self,
+        &'r self,
         cells: &mut Cells,
         scopes: &mut Scopes,
         terms: &[Term<'a>],
@@ -103,7 +103,7 @@ impl<'r, 's, 'p, 'a> Walk<'r, 's, 'p, 'a> {
     /// Adds the list of what a class word could name, and gives the class that it names, with its permissions. Where its name has
     /// one entry in all, in the global namespace, that costs one hash, and no scope is asked.
     fn class_word(
-        &self,
+        &'r self,
         cells: &mut Cells,
         scopes: &mut Scopes,
         class: &PlacedWord,
@@ -124,7 +124,7 @@ impl<'r, 's, 'p, 'a> Walk<'r, 's, 'p, 'a> {
 
     /// The class that a class word names, if the word could name just the entry of a number.
     fn class_of_entry(
-        &self,
+        &'r self,
         scopes: &mut Scopes,
         class: &PlacedWord,
         entry: usize,
@@ -149,7 +149,7 @@ impl<'r, 's, 'p, 'a> Walk<'r, 's, 'p, 'a> {
 
     /// The class that a class word names, where the scope of the word is asked.
     fn scoped_class(
-        &self,
+        &'r self,
         scopes: &mut Scopes,
         class: &PlacedWord,
     ) -> Result<Option<Class<'r>>, NoMemory>
@@ -182,7 +182,7 @@ impl<'r, 's, 'p, 'a> Walk<'r, 's, 'p, 'a> {
     /// Adds the lists of the permissions among some terms, of a class that was found.
     #[cycle(permissions)]
     fn permissions(
-        &self,
+        &'r self,
         cells: &mut Cells,
         found: Option<Class<'_>>,
         terms: &[Term<'a>],
@@ -200,7 +200,7 @@ impl<'r, 's, 'p, 'a> Walk<'r, 's, 'p, 'a> {
 
     #[cycle(permissions)]
     fn permission(
-        &self,
+        &'r self,
         cells: &mut Cells,
         found: Option<Class<'_>>,
         term: &Term<'a>,

@@ -70,9 +70,9 @@ struct Judge<'r, 's, 'p, 'a> {
     declared: &'r [bool],
 }
 
-impl Judge<'_, '_, '_, '_> {
+impl<'r> Judge<'r, '_, '_, '_> {
     /// Reports what the statement at a place asks for and does not get, if it is in no optional.
-    fn instance(&self, faults: &mut Vec<Fault>, at: usize) -> Result<(), NoMemory>
+    fn instance(&'r self, faults: &mut Vec<Fault>, at: usize) -> Result<(), NoMemory>
         requires { at < length (items_in self.now.instances.now) }
         ensures { OnOk result ((es : List AnEntry) (s : AnOptSet) → IsJudge self.now es s
             → faults.new.items ≡ faults.old.items ++ faults_in (items_by self.now) s (item_at self.now.instances.now at)) }
@@ -87,7 +87,7 @@ impl Judge<'_, '_, '_, '_> {
     }
 
     /// Whether each word of the statement at a place names something, and each permission.
-    fn is_full(&self, at: usize) -> bool
+    fn is_full(&'r self, at: usize) -> bool
         ensures { result ≡ list_all (has_one self.now.declared.now) (row_by self.now at) }
     {
         for number in 0..self.asks.count(at) {
@@ -99,14 +99,14 @@ impl Judge<'_, '_, '_, '_> {
     }
 
     /// Whether one of the entries is declared that a word of the statement at a place could name.
-    fn is_live(&self, at: usize, number: usize) -> bool
+    fn is_live(&'r self, at: usize, number: usize) -> bool
         ensures { result ≡ has_one self.now.declared.now (get_or (row_by self.now at) number []) }
     {
         first_declared(self.declared, self.asks.word(at, number)).is_some()
     }
 
     /// Reports what the statement at a place asks for and does not get. It lists its words.
-    fn tell_all(&self, faults: &mut Vec<Fault>, at: usize) -> Result<(), NoMemory>
+    fn tell_all(&'r self, faults: &mut Vec<Fault>, at: usize) -> Result<(), NoMemory>
         requires { at < length (items_in self.now.instances.now) }
         ensures { OnOk result ((es : List AnEntry) (s : AnOptSet) → IsJudge self.now es s
             → faults.new.items ≡ faults.old.items ++ of_words (items_by self.now) s (item_at self.now.instances.now at)) }
@@ -116,7 +116,7 @@ impl Judge<'_, '_, '_, '_> {
     }
 
     /// Reports those of some things, all that a statement asks for, that it does not get.
-    fn tell(&self, faults: &mut Vec<Fault>, at: usize, asked: &[Asked]) -> Result<(), NoMemory>
+    fn tell(&'r self, faults: &mut Vec<Fault>, at: usize, asked: &[Asked]) -> Result<(), NoMemory>
         ensures { OnOk result ((es : List AnEntry) (s : AnOptSet) → IsJudge self.now es s
             → row_by self.now at ≡ map (could_by self.now es) (flat_map (wanted_by (all_placed self.now.instances.now)) asked.now)
             → faults.new.items ≡ faults.old.items ++ flat_map (λ one. faults_of_all (items_by self.now) s (space_by self.now at) (wanted_by (all_placed self.now.instances.now) one)) asked.now) }
@@ -134,7 +134,7 @@ impl Judge<'_, '_, '_, '_> {
 
     /// The same of one of them, whose first word has this number. Permissions are asked for only where their class is there.
     fn tell_one(
-        &self,
+        &'r self,
         faults: &mut Vec<Fault>,
         at: usize,
         number: usize,
@@ -158,7 +158,7 @@ impl Judge<'_, '_, '_, '_> {
 
     /// Reports the permissions that a class lacks. The class word before them has this number.
     fn tell_permissions(
-        &self,
+        &'r self,
         faults: &mut Vec<Fault>,
         at: usize,
         number: usize,
@@ -181,7 +181,7 @@ impl Judge<'_, '_, '_, '_> {
 
     /// Reports a word, unless an entry is declared that the word of this number could name.
     fn unless_live(
-        &self,
+        &'r self,
         faults: &mut Vec<Fault>,
         at: usize,
         number: usize,

@@ -35,7 +35,7 @@ pub struct Walk<'r, 's, 'p, 'a> {
 impl<'r, 's, 'p, 'a> Walk<'r, 's, 'p, 'a> {
     /// Adds a list for each thing that the statement asks for. Each word costs one look-up, and the class word of a class list one
     /// more, but where its name has one entry in all. A scope is filled where a word asks for it.
-    pub fn statement(&self, cells: &mut Cells, scopes: &mut Scopes) -> Result<(), NoMemory>
+    pub fn statement(&'r self, cells: &mut Cells, scopes: &mut Scopes) -> Result<(), NoMemory>
         requires walk { IsWalk self.now }
         requires scopes { AreScopes self.now.reading.instances.now scopes.old }
         ensures asks { OnOk result (AddsFor self.now (words_of (item_read self.now.reading)) cells.old cells.new) }
@@ -48,7 +48,7 @@ impl<'r, 's, 'p, 'a> Walk<'r, 's, 'p, 'a> {
     }
 
     /// The same of a statement that may say a list.
-    fn listed(&self, cells: &mut Cells, scopes: &mut Scopes) -> Result<(), NoMemory>
+    fn listed(&'r self, cells: &mut Cells, scopes: &mut Scopes) -> Result<(), NoMemory>
         requires walk { IsWalk self.now }
         requires scopes { AreScopes self.now.reading.instances.now scopes.old }
         ensures asks { OnOk result (AddsFor self.now (words_of (item_read self.now.reading)) cells.old cells.new) }
@@ -62,7 +62,12 @@ impl<'r, 's, 'p, 'a> Walk<'r, 's, 'p, 'a> {
     }
 
     /// Adds a list for something that is asked for; for a class list one for its class word, and one for each permission.
-    fn one(&self, cells: &mut Cells, scopes: &mut Scopes, one: &Asked<'a>) -> Result<(), NoMemory>
+    fn one(
+        &'r self,
+        cells: &mut Cells,
+        scopes: &mut Scopes,
+        one: &Asked<'a>,
+    ) -> Result<(), NoMemory>
         requires walk { IsWalk self.now }
         requires scopes { AreScopes self.now.reading.instances.now scopes.old }
         ensures asks { OnOk result (AddsFor self.now (wanted_by (all_placed self.now.reading.instances.now) one.now) cells.old cells.new) }
@@ -77,7 +82,7 @@ impl<'r, 's, 'p, 'a> Walk<'r, 's, 'p, 'a> {
     }
 
     /// The same as `statement`, of a statement that says words alone.
-    fn written(&self, cells: &mut Cells, scopes: &mut Scopes) -> Result<(), NoMemory>
+    fn written(&'r self, cells: &mut Cells, scopes: &mut Scopes) -> Result<(), NoMemory>
         requires walk { IsWalk self.now }
         requires words { ReadsWords self.now.reading }
         requires scopes { AreScopes self.now.reading.instances.now scopes.old }
@@ -101,7 +106,7 @@ impl<'r, 's, 'p, 'a> Walk<'r, 's, 'p, 'a> {
     /// Adds a list for each thing that the terms of a classmapping ask for: its class map, its permission as one of the map, and what
     /// is behind them.
     fn mapping(
-        &self,
+        &'r self,
         cells: &mut Cells,
         scopes: &mut Scopes,
         terms: &[Term<'a>],
@@ -116,7 +121,7 @@ impl<'r, 's, 'p, 'a> Walk<'r, 's, 'p, 'a> {
     }
 
     /// Adds a list for each word of a call.
-    fn call(&self, cells: &mut Cells, scopes: &mut Scopes) -> Result<(), NoMemory>
+    fn call(&'r self, cells: &mut Cells, scopes: &mut Scopes) -> Result<(), NoMemory>
         requires walk { IsWalk self.now }
         requires words { ReadsWords self.now.reading }
         requires scopes { AreScopes self.now.reading.instances.now scopes.old }
@@ -133,7 +138,7 @@ impl<'r, 's, 'p, 'a> Walk<'r, 's, 'p, 'a> {
     /// Adds a list for each thing that some terms ask for.
     #[cycle(terms)]
     fn terms(
-        &self,
+        &'r self,
         cells: &mut Cells,
         scopes: &mut Scopes,
         terms: &[Term<'a>],
@@ -150,7 +155,12 @@ impl<'r, 's, 'p, 'a> Walk<'r, 's, 'p, 'a> {
     }
 
     #[cycle(terms)]
-    fn term(&self, cells: &mut Cells, scopes: &mut Scopes, term: &Term<'a>) -> Result<(), NoMemory>
+    fn term(
+        &'r self,
+        cells: &mut Cells,
+        scopes: &mut Scopes,
+        term: &Term<'a>,
+    ) -> Result<(), NoMemory>
         requires walk { IsWalk self.now }
         requires scopes { AreScopes self.now.reading.instances.now scopes.old }
         ensures asks { OnOk result (AddsFor self.now (wanted_in (term_with (word_read self.now.reading) (module_of self.now.reading) term.now)) cells.old cells.new) }

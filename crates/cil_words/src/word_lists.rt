@@ -22,7 +22,7 @@ impl<'r, 's, 'p, 'a> Walk<'r, 's, 'p, 'a> {
     /// Adds the list of what a word could name. Where its name has one entry in all, in the global namespace, that costs one hash,
     /// and no scope is asked.
     pub fn word(
-        &self,
+        &'r self,
         cells: &mut Cells,
         scopes: &mut Scopes,
         word: &PlacedWord,
@@ -40,7 +40,7 @@ impl<'r, 's, 'p, 'a> Walk<'r, 's, 'p, 'a> {
 
     /// The same where the scope of the word is asked.
     pub fn scoped(
-        &self,
+        &'r self,
         cells: &mut Cells,
         scopes: &mut Scopes,
         word: &PlacedWord,
