@@ -4,8 +4,9 @@ ghost use Rattle.std.specs.Prelude.{◌≡◌, [], IfOk, List, find, get_or, map
 ghost use Rattle.std.specs.Global.{Vec as Vector};
 ghost use Rattle.cil_base.specs.declared.bytes.Bytes.{Bytes as Text};
 ghost use Rattle.cil_blocks.specs.declared.namespaces.Space.{Space};
-ghost use Rattle.cil_macros.specs.Item.{Item};
-ghost use Rattle.cil_names.specs.Entries.{is_in};
+ghost use Rattle.cil_macros.specs.Item.{Item, OptSet as AnOptSet};
+ghost use Rattle.cil_names.specs.declared.entry.Entry.{Entry as AnEntry};
+ghost use Rattle.cil_names.specs.Entries.{is_declared_in, is_in};
 ghost use Rattle.cil_names.specs.PermissionWords.{meanings};
 ghost use Rattle.cil_names.specs.Rows.{IsTableOf};
 ghost use Rattle.cil_names.specs.Unresolved.{ArePermissions};
@@ -30,8 +31,16 @@ pub fn settled(
         → IsTableOf (map (meanings ss names.now lists (is_in enabled.now)) xs) words) }
 {
     let declared = flags_of(alloc, names.entries(), enabled.as_slice())?;
+    settled_by(alloc, declared.as_slice(), asks)
+}
+
+/// The same, by flags of the entries that are declared.
+fn settled_by(alloc: Global, declared: &[bool], asks: Asks) -> Result<Words, NoMemory>
+    ensures { IfOk result (λ words. (ss : List Space) (es : List AnEntry) (xs : List Item) (lists : List (Vector Text)) (s : AnOptSet) → declared.now ≡ map (is_declared_in s) es
+        → AreNumberedAsks ss es xs lists asks → ArePermissions ss es xs lists → IsTableOf (map (meanings ss es lists s) xs) words) }
+{
     let (starts, cells) = asks.into_rows();
-    let words = meanings_of(alloc, declared.as_slice(), &cells)?;
+    let words = meanings_of(alloc, declared, &cells)?;
     Ok(Words::of(starts, words))
 }
 

@@ -1,21 +1,12 @@
--- cil_words/proofs/settled_rows/settled/Answers.antt
 use Rattle.std.proofs.Common.{map, ◌∙◌}
+use Rattle.std.proofs.lemmas.Result.{IfOk-weaker}
 use Rattle.cil_names.specs.Entries.{is_declared_in, is_in}
-use Rattle.cil_names.proofs.RowLemmas.{changed, changed_within}
-use Rattle.cil_words.specs.Table.{ask_value}
-use Rattle.cil_words.proofs.RowLemmas.{rows_mean}
 use Rattle.cil_words.proofs.settled_rows.settled.Goals as goal
 
 pub returns : goal.returns
 returns c =
-    let f = ask_value (is_in c.as_slice-2.result.now) in
-    let starts = c.into_rows-starts.result.0.items in
-    let cells = c.into_rows-starts.result.1 in
-    let all = c.of.ensures.words ∙ c.in_ok-words.ensures in
-    λ ss xs lists are permissions. record {
-      within = changed_within f cells starts c.of.result.starts.items c.of.result.words.items c.of.ensures.starts all c.into_rows-starts.ensures.within;
-      are =
-          changed f cells starts c.of.result.starts.items c.of.result.words.items _ c.of.ensures.starts all c.into_rows-starts.ensures.rows
-          ∙ rows_mean ss c.args.names.now xs lists permissions (is_in c.args.enabled.now) c.as_slice-2.result.now
-          (c.as_slice-2.ensures.value ∙ c.in_ok-declared.ensures ∙ (λ i. map (is_declared_in (is_in (c.as_slice.ensures i))) (c.entries.ensures.value i))) c.args.asks are;
-    }
+    IfOk-weaker c.settled_by.result _ _
+    (λ words so ss xs lists are permissions.
+    so ss c.args.names.now xs lists (is_in c.args.enabled.now)
+    (c.as_slice-2.ensures.value ∙ c.in_ok-declared.ensures ∙ (λ i. map (is_declared_in (is_in (c.as_slice.ensures i))) (c.entries.ensures.value i))) are permissions)
+    c.settled_by.ensures
