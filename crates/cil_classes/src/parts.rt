@@ -1,6 +1,6 @@
 //! What a class permission gives, by the numbers of its words: permissions of a class, or all that some nodes have.
 
-ghost use Rattle.std.specs.Prelude.{◌≡◌, ◌↔◌, ◌<◌, ◌≤◌, ◌⊎◌, ℕ, Contains, IfOk, IsTrue, List, MatchOption, None, OnOk, get_or, length, true};
+ghost use Rattle.std.specs.Prelude.{◌≡◌, ◌↔◌, ◌<◌, ◌≤◌, ◌⊎◌, ℕ, Contains, IfOk, List, MatchOption, None, OnOk, get_or, length, true};
 ghost use Rattle.std.specs.List.Sorted.{IsStrictlySortedBy};
 ghost use Rattle.cil_base.specs.Lists.{text_cmp};
 ghost use Rattle.cil_syntax.specs.declared.kind.Kind as kinds;
@@ -26,7 +26,7 @@ use crate::given::given_by;
 use crate::nodes::{Node, Run, place_of, run_of};
 use crate::row::Class;
 use cil_base::NoMemory;
-use cil_names::{Known, Meaning, behind_first, laws, meaning_at};
+use cil_names::{Known, Meaning, behind_first, laws, meaning_at, same_kind};
 use cil_syntax::{Kind, Term};
 use std::alloc::Global;
 
@@ -176,14 +176,8 @@ pub fn entry_of(known: &Known, kind: Kind, meaning: Option<usize>) -> Option<usi
     let Some(entry) = known.lookup.names.entries().get(d) else {
         return None;
     };
-    if !is_same(entry.kind, kind) {
+    if !same_kind(entry.kind, kind) {
         return None;
     }
     Some(d)
-}
-
-fn is_same(a: Kind, b: Kind) -> bool
-    ensures { IsTrue result ↔ (a ≡ b) }
-{
-    a == b
 }

@@ -114,7 +114,7 @@ pub fn push_placed<'a>(
 
 impl<'r, 's, 'p, 'a> Reading<'r, 's, 'p, 'a> {
     /// What the statement asks for, in order.
-    pub fn asked(&self, alloc: Global) -> Result<Vec<Asked<'a>>, NoMemory>
+    pub fn asked(&'r self, alloc: Global) -> Result<Vec<Asked<'a>>, NoMemory>
         requires { IsReading self.now }
         ensures { IfOk result (λ asked. asked_by self.now asked.items ≡ words_of (item_read self.now)) }
     {
@@ -123,7 +123,7 @@ impl<'r, 's, 'p, 'a> Reading<'r, 's, 'p, 'a> {
     }
 
     /// What the statement says, part by part.
-    fn parts(&self, alloc: Global) -> Result<Vec<Part<'a>>, NoMemory>
+    fn parts(&'r self, alloc: Global) -> Result<Vec<Part<'a>>, NoMemory>
         requires { IsReading self.now }
         ensures { IfOk result (λ parts. parts_there (all_placed self.now.instances.now) parts.items ≡ all_parts_of (item_read self.now).args) }
     {
@@ -141,7 +141,7 @@ impl<'r, 's, 'p, 'a> Reading<'r, 's, 'p, 'a> {
     }
 
     /// Whether what the statement says may have a list. Calls are among them, whose arguments are written elsewhere.
-    fn may_have_list(&self) -> bool
+    fn may_have_list(&'r self) -> bool
         requires { IsReading self.now }
         ensures lists { IsTrue result → says_lists (item_read self.now).keyword ≡ true }
         ensures words { result ≡ false → SaysWritten self.now }

@@ -40,7 +40,7 @@ impl<'s, 'a> Known<'s, 'a> {
         laws::means_what_it_names();
         let d = meaning?;
         let entry = self.lookup.names.entries().get(d)?;
-        if !is_same(entry.kind, kind) {
+        if !same_kind(entry.kind, kind) {
             return None;
         }
         Some(number_at(self.numbers, d))
@@ -74,7 +74,8 @@ fn number_at(numbers: &[usize], place: usize) -> usize
     }
 }
 
-fn is_same(a: Kind, b: Kind) -> bool
+/// Whether two kinds are one.
+pub fn same_kind(a: Kind, b: Kind) -> bool
     ensures { IsTrue result ↔ (a ≡ b) }
 {
     a == b

@@ -48,11 +48,10 @@ pub use enabled::{flags_of, is_declared};
 pub use entry::Entry;
 pub use gather::declare;
 pub use guesses::{Guesses, hash_of};
-pub use known::{Known, meaning_at, same_keyword};
-pub use look::are_numbers;
+pub use known::{Known, meaning_at, same_keyword, same_kind};
 pub use meaning::Meaning;
 pub use meanings_behind::{behind, behind_first, behind_word};
-pub use names::Names;
+pub use names::{Names, are_numbers};
 pub use numbers::{Numbering, Sections, numbered};
 pub use opt_set::{OptSet, is_set};
 pub use permission_word::{

@@ -1,6 +1,6 @@
 //! Look-up of words in scopes, over namespaces and a slice of entries.
 
-ghost use Rattle.std.specs.Prelude.{◌≡◌, ◌↔◌, IsTrue, length, ◌≤◌, ◌++◌, All, OnOk, find};
+ghost use Rattle.std.specs.Prelude.{◌≡◌, length, ◌≤◌, ◌++◌, All, OnOk, find};
 ghost use Rattle.cil_names.specs.Entries.{AreOrdered, candidates_of, is_declared_at, is_in, listed, scoped};
 ghost use Rattle.cil_names.specs.Sought.{IsSought, could_name};
 
@@ -13,19 +13,6 @@ use cil_base::NoMemory;
 use cil_blocks::Namespaces;
 use cil_macros::asked::{asked_in, asked_scope};
 use cil_syntax::Word;
-
-/// Whether these are numbers of namespaces.
-pub fn are_numbers(namespaces: &Namespaces, numbers: &[usize]) -> bool
-    ensures { IsTrue result ↔ All (λ k. k ≤ length namespaces.now) numbers.now }
-{
-    let most = namespaces.len();
-    for number in numbers {
-        if *number > most {
-            return false;
-        }
-    }
-    true
-}
 
 /// Adds the numbers of the entries that a word could name, whatever is enabled, in the order of its scope. A word that wants
 /// no kind, as a permission, costs nothing.

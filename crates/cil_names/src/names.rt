@@ -265,3 +265,16 @@ fn are_within(namespaces: &Namespaces, entries: &[Entry]) -> bool
     }
     true
 }
+
+/// Whether these are numbers of namespaces.
+pub fn are_numbers(namespaces: &Namespaces, numbers: &[usize]) -> bool
+    ensures { IsTrue result ↔ All (λ k. k ≤ length namespaces.now) numbers.now }
+{
+    let most = namespaces.len();
+    for number in numbers {
+        if *number > most {
+            return false;
+        }
+    }
+    true
+}

@@ -24,7 +24,7 @@ pub struct Reading<'r, 's, 'p, 'a> {
 
 impl<'r, 's, 'p, 'a> Reading<'r, 's, 'p, 'a> {
     /// What a word of the statement says here, and where it is looked up.
-    pub fn word(&self, word: &Word<'a>) -> PlacedWord<'a>
+    pub fn word(&'r self, word: &Word<'a>) -> PlacedWord<'a>
         requires { IsReading self.now }
         ensures { scoped_by (all_placed self.now.instances.now) result ≡ word_read self.now word.now }
     {
@@ -32,7 +32,7 @@ impl<'r, 's, 'p, 'a> Reading<'r, 's, 'p, 'a> {
     }
 
     /// The words of the call that the statement is: that of its macro and, where it is unfolded, its arguments that are looked up.
-    pub fn call_words(&self, alloc: Global) -> Result<Vec<PlacedWord<'a>>, NoMemory>
+    pub fn call_words(&'r self, alloc: Global) -> Result<Vec<PlacedWord<'a>>, NoMemory>
         requires { IsReading self.now }
         ensures { IfOk result (λ ws. map (scoped_there self.now) ws.items ≡ words_called self.now) }
     {

@@ -13,6 +13,7 @@ ghost use Rattle.cil_names.specs.Entries.{by_name_cmp};
 ghost use Rattle.cil_names.specs.Worded.{IsOfStatement, IsWordless};
 
 use crate::content::{Comparison, ReadAt, is_same_content};
+use crate::known::same_kind;
 use crate::reading::is_at;
 use crate::row::Row;
 use crate::worded::is_worded;
@@ -160,7 +161,7 @@ fn is_same<'a>(
     if is_of_blocks(a.kind) {
         return Ok(true);
     }
-    if !is_same_kind(a.kind, b.kind) {
+    if !same_kind(a.kind, b.kind) {
         return Ok(false);
     }
     is_same_said(alloc, instances, a, b, wordless)
@@ -269,12 +270,6 @@ fn behind_first<'t, 'a>(terms: &'t [Term<'a>]) -> &'t [Term<'a>]
         [] => terms,
         [_, rest @ ..] => rest,
     }
-}
-
-fn is_same_kind(a: Kind, b: Kind) -> bool
-    ensures { IsTrue result ↔ (a ≡ b) }
-{
-    a == b
 }
 
 /// Whether a kind is that of blocks or of macros.

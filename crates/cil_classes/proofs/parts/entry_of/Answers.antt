@@ -13,14 +13,14 @@ returns-in_default-get c =
     λ is names w known means. of_no_entry c.args.known.now is names known c.args.kind c.requires.plain w c.means_what_it_names.ensures c.in-Some.d (sym c.in-Some.is ∙ means)
     (past_end _ _ c.in-Some.d c.entries.ensures.value c.in_default-get.ensures.lookup.3)
 
-pub returns-then-not-is_same : goal.returns-then-not-is_same
-returns-then-not-is_same c =
+pub returns-then-not-same_kind : goal.returns-then-not-same_kind
+returns-then-not-same_kind c =
     λ is names w known means. of_other_kind c.args.known.now is names known c.args.kind c.requires.plain w c.means_what_it_names.ensures c.in-Some.d c.in-Some-get.entry.now (sym c.in-Some.is ∙ means)
     (at_place _ _ c.in-Some.d c.entries.ensures.value c.in-Some-get.entry.now c.in-Some-get.ensures.lookup.3.0 c.in-Some-get.ensures.lookup.1)
-    (λ e. absurd (let t = c.is_same.ensures.1 e in let n = c.if-not-is_same.true in cc (t, n)))
+    (λ e. absurd (let t = c.same_kind.ensures.1 e in let n = c.if-not-same_kind.true in cc (t, n)))
 
 pub returns : goal.returns
 returns c =
     λ is names w known means. entry_is c.args.known.now is names known c.args.kind c.requires.plain w c.means_what_it_names.ensures c.in-Some.d c.in-Some-get.entry.now (sym c.in-Some.is ∙ means)
     (at_place _ _ c.in-Some.d c.entries.ensures.value c.in-Some-get.entry.now c.in-Some-get.ensures.lookup.3.0 c.in-Some-get.ensures.lookup.1)
-    (c.is_same.ensures.0 c.if-not-is_same.false)
+    (c.same_kind.ensures.0 c.if-not-same_kind.false)

@@ -14,8 +14,8 @@ returns-in_err-entry c =
     (λ is names w known means. of_no_entry c.args.self.now is names known c.args.kind c.requires.plain w c.means_what_it_names.ensures c.in_ok-d.d (sym c.in_ok-d.was ∙ means)
     (past_end _ _ c.in_ok-d.d c.entries.ensures.value c.in_err-entry.ensures.lookup.3))
 
-pub returns-then-not-is_same : goal.returns-then-not-is_same
-returns-then-not-is_same c =
+pub returns-then-not-same_kind : goal.returns-then-not-same_kind
+returns-then-not-same_kind c =
     λ is names w known means. of_other_kind c.args.self.now is names known c.args.kind c.requires.plain w c.means_what_it_names.ensures c.in_ok-d.d c.in_ok-entry.entry.now (sym c.in_ok-d.was ∙ means)
     (at_place _ _ c.in_ok-d.d c.entries.ensures.value c.in_ok-entry.entry.now c.in_ok-entry.ensures.lookup.3.0 c.in_ok-entry.ensures.lookup.1)
     (search rules)
@@ -24,4 +24,4 @@ pub returns : goal.returns
 returns c =
     λ is names w known means. of_entry c.args.self.now is names known c.args.kind c.requires.plain w c.means_what_it_names.ensures c.in_ok-d.d c.in_ok-entry.entry.now (sym c.in_ok-d.was ∙ means)
     (at_place _ _ c.in_ok-d.d c.entries.ensures.value c.in_ok-entry.entry.now c.in_ok-entry.ensures.lookup.3.0 c.in_ok-entry.ensures.lookup.1)
-    c.requires.section (c.is_same.ensures.0 c.if-not-is_same.false) c.number_at.result c.number_at.ensures
+    c.requires.section (c.same_kind.ensures.0 c.if-not-same_kind.false) c.number_at.result c.number_at.ensures
