@@ -163,9 +163,9 @@ module _ {masks : List ℕ} (all old new : List Stated) (one : Stated) (keeps : 
 
 module _ {K : Type 0} (asked : Item → K → Type 0) (gives : K → Rule → Type 0) (sets : List (List ℕ)) where
   -- rules that were put into an empty room are those of the statement
-  pub of_room : (x : Item) (old new : List NamedRule) → old ≡ [] → AreBehind asked gives x (map (rule_named [] sets) old) (map (rule_named [] sets) new) → AreRecordsOf asked gives (x ∷ []) (map (rule_named [] sets) new)
-  of_room x old new empty behind =
-      subst (AreRecordsOf asked gives (x ∷ [])) (sym (behind.behind ∙ ap (λ l. map (rule_named [] sets) l ++ behind.records) empty)) behind.are
+  pub of_room : (x : Item) (place : ℕ) (old new : List NamedRule) → old ≡ [] → AreBehind asked gives (rule_named [] sets) x place old new → AreRecordsOf asked gives (x ∷ []) (map (rule_named [] sets) new)
+  of_room x place old new empty behind =
+      subst (λ l. AreRecordsOf asked gives (x ∷ []) (map (rule_named [] sets) l)) (sym (behind.behind ∙ ap (λ l. l ++ behind.rules) empty)) behind.are
 
   -- a statement that has a rule with one of the permissions is put behind those that are kept
   pub was_kept : (masks : List ℕ) (x : Item) (rules : List NamedRule) (old new : List Stated) (place : ℕ) → new ≡ old ++ record { place = place; rules = rules } ∷ []

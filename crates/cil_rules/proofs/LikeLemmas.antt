@@ -15,6 +15,7 @@ use Rattle.cil_classes.proofs.AlikeLemmas.{IsLike, form_alike, leaf_alike, like_
 use Rattle.cil_rules.specs.Behind.{AreBehind}
 use Rattle.cil_rules.specs.Records.{Branching, Case, CaseBy, HasNumber, HasTarget, IsPut, IsRuleOf, IsTargetOf}
 use Rattle.cil_rules.specs.Rule.{Rule, Target}
+use Rattle.cil_rules.specs.declared.rule.NamedRule.{NamedRule}
 
 module _ (xs : List Item) (s : OptSet) where
   target_there : (t u : Term ScopedWord) → IsAlike t u → HasTarget xs s t → HasTarget xs s u
@@ -83,10 +84,11 @@ module _ (xs : List Item) (s : OptSet) where
             }
 
         -- so they have the same records
-        pub behind_like : (x y : Item) → IsLike y x → (old new : List Rule) → AreBehind (CaseBy xs s keyword how) (IsRuleOf xs s types classes how) y old new
-            → AreBehind (CaseBy xs s keyword how) (IsRuleOf xs s types classes how) x old new
-        behind_like x y like old new b = record {
-          records = b.records;
+        pub behind_like : (x y : Item) → IsLike y x → (named : NamedRule → Rule) (place : ℕ) (old new : List NamedRule) → AreBehind (CaseBy xs s keyword how) (IsRuleOf xs s types classes how) named y place old new
+            → AreBehind (CaseBy xs s keyword how) (IsRuleOf xs s types classes how) named x place old new
+        behind_like x y like named place old new b = record {
+          rules = b.rules;
+          behind = b.behind;
           are = record {
             each = λ z c cz by. elim (contains_cases z x [] cz) [
               | inl e ↦
@@ -104,5 +106,6 @@ module _ (xs : List Item) (s : OptSet) where
                   | inr n ↦ absurd (contains_none z n)
                 ];
           };
-          behind = b.behind;
+          there = b.there;
+          rising = b.rising;
         }

@@ -3,9 +3,9 @@ use Rattle.std.specs.Prelude.{Contains, Option, None}
 use Rattle.std.proofs.Common.{◌≡◌, ℕ, ◌++◌, true, false, List, [], ◌∷◌, drop, get_or, length, map, refl, sym, ◌∙◌, ap, subst, inl, inr}
 use Rattle.std.proofs.Math.Seq.{drop-append_seam}
 use Rattle.std.proofs.lemmas.Bool.{true≢false}
-use Rattle.std.proofs.lemmas.List.{append-nil, length-map, map-append}
+use Rattle.std.proofs.lemmas.List.{append-nil, length-map}
 use Rattle.std.proofs.lemmas.Option.{none-some, same_Some}
-use Rattle.std.specs.Ordering.{nat_cmp}
+use Rattle.std.specs.Ordering.{nat_cmp, on}
 use Rattle.cil_base.specs.Gives.{Gives}
 use Rattle.cil_base.specs.Lists.{Lists, contains_cases, contains_here, contains_none}
 use Rattle.cil_base.specs.MadeLists.{contains_map, from_map}
@@ -35,6 +35,7 @@ use Rattle.cil_classes.proofs.PartLemmas.{one_class}
 use Rattle.cil_names.specs.Declarations.{Declared, Symbol}
 use Rattle.cil_names.specs.Numbers.{AreApart}
 use Rattle.cil_rules.specs.Behind.{AreBehind, rule_with}
+use Rattle.cil_rules.proofs.BehindLemmas.{rising_map}
 use Rattle.cil_rules.specs.declared.rule.Reach.{Reach}
 use Rattle.cil_rules.specs.Order.{rule_cmp}
 use Rattle.cil_macros.proofs.FormLemmas.{across, all_across, no_rule, rule_across}
@@ -153,7 +154,7 @@ module _ (xs : List Item) (k : Known) (keyword : Keyword) (how : Branching) (x :
       pub without_target : (HasTarget xs (enabled_in k) (across f target) → ⊥) → (c : Case) → IsCaseOf c → ⊥
       without_target none c by = none (subst (HasTarget xs (enabled_in k)) (target_of c by) by.target)
 
-      module _ (names : Kind → List (List ℕ)) (known : IsKnown k xs names) (apart : AreApart k.lookup.names.now (enabled_in k) k.numbers.now) (branches : List Branch) (branch : ℕ)
+      module _ (names : Kind → List (List ℕ)) (known : IsKnown k xs names) (apart : AreApart k.lookup.names.now (enabled_in k) k.numbers.now) (branches : List Branch) (place branch : ℕ)
           (taken : IsTaken xs (enabled_in k) how x.branch) (put : IsPut xs (enabled_in k) how x.branch (branch_named branches branch)) (types sets : List (List ℕ)) (classes : List Class) (number : ℕ)
           (listed : Lists nat_cmp (HasNumber xs (enabled_in k) types (f source)) (set_named sets number)) (some : set_named sets number ≡ [] → ⊥) (reach : Reach)
           (is_reached : IsReached xs (enabled_in k) types (across f target) (target_named sets reach)) (masks : List (ClassId × ℕ))
@@ -162,7 +163,7 @@ module _ (xs : List Item) (k : Known) (keyword : Keyword) (how : Branching) (x :
         case_for c = record { branch = x.branch; source = f source; target = across f target; class_permission = across f class_permission; class_ = c }
 
         abbrev with_mask : ClassId × ℕ → NamedRule
-        with_mask m = rule_with branch number reach m
+        with_mask m = rule_with place branch number reach m
 
         case_is : (c : Case) → IsCaseOf c → c ≡ case_for c.class_
         case_is c by = same_case c (case_for c.class_) by.branch (source_of c by) (target_of c by) (class_of c by) refl
@@ -223,9 +224,10 @@ module _ (xs : List Item) (k : Known) (keyword : Keyword) (how : Branching) (x :
 
           -- a rule for each mask is a record for each case
           pub some_rules : (old new : List NamedRule) → new ≡ old ++ map with_mask masks
-              → AreBehind (CaseBy xs (enabled_in k) keyword how) (IsRuleOf xs (enabled_in k) types classes how) x (map (rule_named branches sets) old) (map (rule_named branches sets) new)
+              → AreBehind (CaseBy xs (enabled_in k) keyword how) (IsRuleOf xs (enabled_in k) types classes how) (rule_named branches sets) x place old new
           some_rules old new push = record {
-            records = map (rule_named branches sets) (map with_mask masks);
+            rules = map with_mask masks;
+            behind = push;
             are = record {
               each = λ z c cz by. elim (contains_cases z x [] cz) [
                 | inl e ↦ record_for c (subst (λ w. CaseBy xs (enabled_in k) keyword how w c) (sym e) by)
@@ -233,7 +235,9 @@ module _ (xs : List Item) (k : Known) (keyword : Keyword) (how : Branching) (x :
               ];
               only = case_of;
             };
-            behind = ap (map (rule_named branches sets)) push ∙ map-append (rule_named branches sets) old (map with_mask masks);
+            there = λ r c. let (m, cm, e) = from_map with_mask masks r c in ap (λ (z : NamedRule). z.instance) (sym e);
+            rising =
+                rising_map (on (λ (m : ClassId × ℕ). m.0.number) nat_cmp) (on (λ (r : NamedRule). r.class) nat_cmp) with_mask (λ a b less. less) masks masked.rising;
           }
 
 -- ---- the records of all statements

@@ -8,6 +8,13 @@ abbrev pub Reaches : Target → ℕ → ℕ → Type 0
 Reaches (Types numbers) source target = Contains numbers target
 Reaches Itself source target = source ≡ target
 
+-- the rule covers the permission, in whatever branch it is
+pub record CoversInBranch (r : Rule) (source target class_ bit : ℕ) : Type 0 where
+  pub has_source : Contains r.source source
+  pub has_target : Reaches r.target source target
+  pub of_class : r.class ≡ class_
+  pub permits : IsBitSet r.mask bit
+
 -- the rule covers the permission, where these booleans are on
 pub record Covers (on : ℕ → Bool) (r : Rule) (source target class_ bit : ℕ) : Type 0 where
   pub active : is_active on r.branch ≡ true

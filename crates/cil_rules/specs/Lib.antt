@@ -5,6 +5,7 @@ pub mod CoveredBy
 pub mod Covers
 pub mod ForNames
 pub mod Kept
+pub mod Listed
 pub mod Order
 pub mod Records
 pub mod Rule

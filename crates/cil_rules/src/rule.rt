@@ -13,6 +13,8 @@ pub enum Reach {
 /// same memory however many types there are.
 #[derive(Clone, Copy, Debug)]
 pub struct NamedRule {
+    /// The number of the instance of the statement that says it: its place among all that is placed, counted from 0.
+    pub instance: u32,
     /// The number of the branch in which it counts, from 1 on; 0 for a rule that counts always.
     pub branch: u32,
     /// The number of the declared name of the source.
@@ -26,4 +28,4 @@ pub struct NamedRule {
 }
 
 // Policies have hundreds of thousands of rules.
-const _: () = prove!(size_of::<NamedRule>() <= 24);
+const _: () = prove!(size_of::<NamedRule>() <= 28);

@@ -1,48 +1,97 @@
 //! The rules of a policy. A rule costs no look-up of a word and no search, but the numbers of its source, target and class, a walk over
 //! the words of its target, and a step for each of its permission words. Where its class permission is a name or a list on a class map, it
-//! costs what the masks of these cost, and a record for each class of which they give permissions. One of whose words stands for a list
-//! costs a step more for each part of what it says.
+//! costs what the masks of these cost, and a record for each class of which they give permissions.
 
-ghost use Rattle.std.specs.Prelude.{◌≡◌, ◌<◌, ◌++◌, ◌∷◌, [], IfOk, List, true, false, OnOk, length, map};
+ghost use Rattle.std.specs.Prelude.{◌≡◌, ◌<◌, IfOk, OnOk, length, map, false, true};
 ghost use Rattle.std.specs.List.Sorted.{IsStrictlySortedBy};
-ghost use Rattle.cil_base.specs.Records.{AreRecordsOf};
+ghost use Rattle.cil_blocks.specs.Namespaces.{IsNumber};
 ghost use Rattle.cil_conditions.specs.Numbered.{AreBranchesOf};
-ghost use Rattle.cil_conditions.specs.declared.branch.Branch.{Branch as ABranch};
 ghost use Rattle.cil_syntax.specs.declared.kind.Kind.TheVariants as variants;
-ghost use Rattle.cil_syntax.specs.declared.term.Word.{Word as AWord};
-ghost use Rattle.cil_syntax.specs.Said.{args_of};
-ghost use Rattle.cil_syntax.specs.Scopes.{ScopedWord};
-ghost use Rattle.cil_macros.specs.Item.{Item};
-ghost use Rattle.cil_macros.proofs.FormLemmas.{all_across};
-ghost use Rattle.cil_macros.specs.Items.{item_at, items_in, says_as_written, says_lists};
-ghost use Rattle.cil_macros.specs.ListTerms.{AreAlike};
+ghost use Rattle.cil_macros.specs.Items.{item_at, items_in, namespaces_in, says_as_written};
 ghost use Rattle.cil_names.specs.Known.{enabled_in, row_in};
 ghost use Rattle.cil_names.specs.Resolves.{is_mapping};
 ghost use Rattle.cil_names.specs.Rows.{IsTableOf};
 ghost use Rattle.cil_classes.specs.NodeOrder.{node_cmp};
 ghost use Rattle.cil_classes.specs.Row.{AreOrderlyRows};
-ghost use Rattle.cil_rules.specs.Added.{AddsRules};
-ghost use Rattle.cil_rules.specs.Behind.{AreBehind, rule_with};
+ghost use Rattle.cil_rules.specs.Behind.{AreBehind};
 ghost use Rattle.cil_rules.specs.ForNames.{ForNames};
-ghost use Rattle.cil_rules.specs.Kept.{branch_named, rule_named};
-ghost use Rattle.cil_rules.specs.Records.{Branching, CaseBy, IsPut, IsRuleOf, IsTaken, spelled};
+ghost use Rattle.cil_rules.specs.Kept.{rule_named};
+ghost use Rattle.cil_rules.specs.Listed.{AreRulesOf, rule_at};
+ghost use Rattle.cil_rules.specs.Records.{CaseBy, IsRuleOf, spelled};
 
 use crate::branch_number::branch_number;
-use crate::rule::{NamedRule, Reach};
-use crate::sides::{some_at, target_of};
-use cil_base::{NoMemory, short};
-use cil_classes::{Class, ClassId, GivenPermissions, push_perms};
+use crate::rule::NamedRule;
+use crate::statement::push_rules;
+use cil_base::NoMemory;
+use cil_classes::{Class, ClassId, GivenPermissions};
 use cil_conditions::Branches;
 use cil_macros::Instances;
-use cil_names::{Known, Meaning, behind, behind_first, meaning_at, same_keyword};
+use cil_names::{Known, Meaning, same_keyword};
 use cil_sets::Numbers;
-use cil_syntax::{Keyword, Statement};
+use cil_syntax::{Keyword, Spot};
 use std::alloc::Global;
+use std::marker::Model;
 
-/// The rules of the enabled statements with this first word, in the order of these, where the words of each declared name stand for these
-/// types, and the branches of conditions are these: one for each class of which a statement gives permissions. A rule whose source or
-/// target is an attribute without members is left out. Error: out of memory.
-pub fn rules_of(
+/// The rules of the statements with one first word, by rising place of their statement, and those of one statement by rising class.
+/// Contracts see them as their list.
+#[derive(Debug, Drop)]
+pub struct Rules {
+    rules: Vec<NamedRule>,
+}
+
+impl Model for Rules {
+    ghost use Rattle.std.specs.Prelude.{List};
+    ghost use Rattle.cil_rules.specs.declared.rule.NamedRule.{NamedRule};
+
+    ghost Value = { List NamedRule };
+
+    ghost view = { λ a. a.rules.items };
+}
+
+impl Rules {
+    /// These rules.
+    pub fn of(rules: Vec<NamedRule>) -> Rules
+        ensures { result ≡ rules.items }
+    {
+        Rules { rules }
+    }
+
+    /// All rules, in order.
+    pub fn as_slice(&self) -> &[NamedRule]
+        ensures { result.now ≡ self.now }
+    {
+        self.rules.as_slice()
+    }
+
+    /// All rules, in order, as a list.
+    pub fn into_list(self) -> Vec<NamedRule>
+        ensures { result.items ≡ self.entry }
+    {
+        self.rules
+    }
+
+    /// Where the statement of a rule is written: the number of its module, and its place in it.
+    pub fn at(&self, instances: &Instances, number: usize) -> Spot
+        requires number { number < length self.now }
+        requires within { (rule_at self.now number).instance < length (items_in instances.now) }
+        ensures { result ≡ (item_at instances.now (rule_at self.now number).instance).at }
+    {
+        instances.statement_there(self.rules[number].instance as usize).at
+    }
+
+    /// The number of the namespace in which the statement of a rule is placed.
+    pub fn space(&self, instances: &Instances, number: usize) -> usize
+        requires { number < length self.now }
+        ensures { IsNumber (namespaces_in instances.now) (item_at instances.now (rule_at self.now number).instance).space result }
+    {
+        instances.space(self.rules[number].instance as usize)
+    }
+}
+
+/// The rules of the enabled statements with this first word, where the words of each declared name stand for these types, and the branches of
+/// conditions are these: one for each class of which a statement gives permissions. What covers nothing has no rule: a statement whose
+/// source or target is an attribute without members, or that gives no permission. Error: out of memory.
+pub fn rules(
     alloc: Global,
     instances: &Instances,
     known: &Known,
@@ -51,7 +100,7 @@ pub fn rules_of(
     given: &GivenPermissions,
     branches: &Branches,
     keyword: Keyword,
-) -> Result<Vec<NamedRule>, NoMemory>
+) -> Result<Rules, NoMemory>
     requires table { IsTableOf (map (row_in known.now) (items_in instances.now)) known.now.words.now }
     requires rows { AreOrderlyRows classes.now }
     requires nodes { IsStrictlySortedBy node_cmp given.now.nodes.items }
@@ -59,9 +108,9 @@ pub fn rules_of(
     requires plain { is_mapping keyword ≡ false }
     ensures { IfOk result (λ rules. ForNames known.now (items_in instances.now) types.now classes.now given.now (λ names.
         AreBranchesOf instances.now (enabled_in known.now) (names variants.Boolean) branches.now
-        → AreRecordsOf (CaseBy (items_in instances.now) (enabled_in known.now) keyword (spelled (names variants.Boolean)))
+        → AreRulesOf (CaseBy (items_in instances.now) (enabled_in known.now) keyword (spelled (names variants.Boolean)))
         (IsRuleOf (items_in instances.now) (enabled_in known.now) (names variants.Type_) classes.now (spelled (names variants.Boolean)))
-        (items_in instances.now) (map (rule_named branches.now.rows types.now) rules.items))) }
+        (rule_named branches.now.rows types.now) (item_at instances.now) (length (items_in instances.now)) rules)) }
 {
     let mut rules = Vec::with_capacity(alloc, instances.len())?;
     let mut masks = Vec::new(alloc);
@@ -72,7 +121,7 @@ pub fn rules_of(
             branches, keyword,
         )?;
     }
-    Ok(rules)
+    Ok(Rules::of(rules))
 }
 
 /// Adds the rules of the statement at a place, as `push_rules` does, in the branch in which it is; none where a word of its condition
@@ -101,7 +150,7 @@ fn push_in_branch(
         → words.now ≡ row_in known.now (item_at instances.now at)
         → AreBehind (CaseBy (items_in instances.now) (enabled_in known.now) keyword (spelled (names variants.Boolean)))
         (IsRuleOf (items_in instances.now) (enabled_in known.now) (names variants.Type_) classes.now (spelled (names variants.Boolean)))
-        (item_at instances.now at) (map (rule_named branches.now.rows types.now) out.old.items) (map (rule_named branches.now.rows types.now) out.new.items))) }
+        (rule_named branches.now.rows types.now) (item_at instances.now at) at out.old.items out.new.items)) }
 {
     // Most statements are of other keywords, and are asked for no branch.
     if !same_keyword(instances.statement_there(at).keyword, keyword) {
@@ -113,169 +162,5 @@ fn push_in_branch(
     push_rules(
         alloc, instances, out, masks, at, words, known, types, classes, given, branch, keyword,
     )?;
-    Ok(())
-}
-
-/// Adds the rules of the statement at a place, if it is an enabled one with this first word, by what its words mean; none where it covers
-/// nothing. They are in the branch of this number, of which nothing is asked here. The masks are room for those of the statement, so that
-/// no statement takes memory of its own.
-pub fn push_rules(
-    alloc: Global,
-    instances: &Instances,
-    out: &mut Vec<NamedRule>,
-    masks: &mut Vec<(ClassId, u32)>,
-    at: usize,
-    words: &[Meaning],
-    known: &Known,
-    types: &[Numbers],
-    classes: &[Class],
-    given: &GivenPermissions,
-    branch: u32,
-    keyword: Keyword,
-) -> Result<(), NoMemory>
-    requires within { at < length (items_in instances.now) }
-    requires rows { AreOrderlyRows classes.now }
-    requires nodes { IsStrictlySortedBy node_cmp given.now.nodes.items }
-    requires written { says_as_written keyword ≡ true }
-    requires plain { is_mapping keyword ≡ false }
-    ensures { OnOk result ((xs : List Item) (branches : List ABranch) (how : Branching) → IsTaken xs (enabled_in known.now) how (item_at instances.now at).branch
-        → IsPut xs (enabled_in known.now) how (item_at instances.now at).branch (branch_named branches branch)
-        → ForNames known.now xs types.now classes.now given.now (λ names.
-        words.now ≡ row_in known.now (item_at instances.now at)
-        → AreBehind (CaseBy xs (enabled_in known.now) keyword how) (IsRuleOf xs (enabled_in known.now) (names variants.Type_) classes.now how)
-        (item_at instances.now at) (map (rule_named branches types.now) out.old.items) (map (rule_named branches types.now) out.new.items))) }
-{
-    let statement = instances.statement_there(at);
-    if !same_keyword(statement.keyword, keyword) {
-        return Ok(());
-    }
-    if !known.is_enabled(instances, at) {
-        return Ok(());
-    }
-    if instances.may_have_list(at) {
-        push_listed(
-            alloc, instances, out, masks, at, words, known, types, classes, given, branch,
-        )?;
-        return Ok(());
-    }
-    push_said(
-        alloc, out, masks, statement, words, known, types, classes, given, branch,
-    )?;
-    Ok(())
-}
-
-/// Adds the rules of the enabled statement at a place in which a list may be put in for a word: those of what it says, as a statement.
-fn push_listed(
-    alloc: Global,
-    instances: &Instances,
-    out: &mut Vec<NamedRule>,
-    masks: &mut Vec<(ClassId, u32)>,
-    at: usize,
-    words: &[Meaning],
-    known: &Known,
-    types: &[Numbers],
-    classes: &[Class],
-    given: &GivenPermissions,
-    branch: u32,
-) -> Result<(), NoMemory>
-    requires within { at < length (items_in instances.now) }
-    requires lists { says_lists (item_at instances.now at).keyword ≡ true }
-    requires rows { AreOrderlyRows classes.now }
-    requires nodes { IsStrictlySortedBy node_cmp given.now.nodes.items }
-    ensures { OnOk result (AddsRules known.now types.now classes.now given.now branch (item_at instances.now at) words.now out.old.items out.new.items) }
-{
-    let statement = instances.statement_there(at);
-    let said = Statement {
-        keyword: statement.keyword,
-        at: statement.at,
-        under: statement.under,
-        args: instances.terms(alloc, at)?,
-    };
-    push_said(
-        alloc, out, masks, &said, words, known, types, classes, given, branch,
-    )?;
-    Ok(())
-}
-
-/// Adds the rules of an enabled statement that says what this one says, or what stands in its place.
-fn push_said(
-    alloc: Global,
-    out: &mut Vec<NamedRule>,
-    masks: &mut Vec<(ClassId, u32)>,
-    statement: &Statement,
-    words: &[Meaning],
-    known: &Known,
-    types: &[Numbers],
-    classes: &[Class],
-    given: &GivenPermissions,
-    branch: u32,
-) -> Result<(), NoMemory>
-    requires rows { AreOrderlyRows classes.now }
-    requires nodes { IsStrictlySortedBy node_cmp given.now.nodes.items }
-    ensures { OnOk result ((x : Item) (f : AWord → ScopedWord) → AreAlike (all_across f (args_of statement.now)) x.args
-        → AddsRules known.now types.now classes.now given.now branch x words.now out.old.items out.new.items) }
-{
-    let Some(parts) = statement.rule_parts() else {
-        return Ok(());
-    };
-    let module = statement.at.module;
-    let Some(source) = some_at(types, meaning_at(words, 0)) else {
-        return Ok(());
-    };
-    let of_target = behind_first(words);
-    let of_class = behind(of_target, parts.target, module);
-    let Some(target) = target_of(types, parts.target, of_target)? else {
-        return Ok(());
-    };
-    let source = short(source)?;
-    masks.clear();
-    push_perms(
-        alloc,
-        masks,
-        known,
-        classes,
-        given,
-        parts.class_permission,
-        module,
-        of_class,
-    )?;
-    push_named(out, masks.as_slice(), branch, source, target)?;
-    Ok(())
-}
-
-/// Adds a rule for each of these masks.
-fn push_named(
-    out: &mut Vec<NamedRule>,
-    masks: &[(ClassId, u32)],
-    branch: u32,
-    source: u32,
-    target: Reach,
-) -> Result<(), NoMemory>
-    ensures { OnOk result (out.new.items ≡ out.old.items ++ map (rule_with branch source target) masks.now) }
-{
-    for one in masks {
-        push_one(out, one, branch, source, target)?;
-    }
-    Ok(())
-}
-
-/// Adds the rule of one mask.
-fn push_one(
-    out: &mut Vec<NamedRule>,
-    one: &(ClassId, u32),
-    branch: u32,
-    source: u32,
-    target: Reach,
-) -> Result<(), NoMemory>
-    ensures { OnOk result (out.new.items ≡ out.old.items ++ rule_with branch source target one.now ∷ []) }
-{
-    let class = short(one.0.number)?;
-    out.push(NamedRule {
-        branch,
-        source,
-        target,
-        class,
-        mask: one.1,
-    })?;
     Ok(())
 }

@@ -30,7 +30,7 @@ use cil_conditions::{Branches, branches_of};
 use cil_index::{NamedRules, Sections};
 use cil_macros::Instances;
 use cil_names::Known;
-use cil_rules::rules_of;
+use cil_rules::rules;
 use cil_sets::Numbers;
 use cil_syntax::{Keyword, Kind};
 use std::alloc::Global;
@@ -130,7 +130,7 @@ fn named_rules(
         AreBranchesOf instances.now (enabled_in known.now) (names variants.Boolean) branches.now
         → AreNamedRules (items_in instances.now) (enabled_in known.now) (names variants.Type_) classes.now (names variants.Boolean) branches.now.rows types.now rules)) }
 {
-    let allow = rules_of(
+    let allow = rules(
         alloc,
         instances,
         known,
@@ -140,7 +140,7 @@ fn named_rules(
         branches,
         Keyword::Allow,
     )?;
-    let auditallow = rules_of(
+    let auditallow = rules(
         alloc,
         instances,
         known,
@@ -150,7 +150,7 @@ fn named_rules(
         branches,
         Keyword::AuditAllow,
     )?;
-    let dontaudit = rules_of(
+    let dontaudit = rules(
         alloc,
         instances,
         known,
@@ -161,9 +161,9 @@ fn named_rules(
         Keyword::DontAudit,
     )?;
     Ok(NamedRules {
-        allow,
-        auditallow,
-        dontaudit,
+        allow: allow.into_list(),
+        auditallow: auditallow.into_list(),
+        dontaudit: dontaudit.into_list(),
     })
 }
 

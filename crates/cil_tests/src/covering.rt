@@ -6,7 +6,7 @@ ghost use Rattle.cil_conditions.specs.Order.{branch_cmp};
 
 use cil_conditions::{Branch, Settings};
 use cil_index::{Asked, NamedRules, Sections};
-use cil_rules::{NamedRule, Reach};
+use cil_rules::{NamedRule, Reach, covers};
 use cil_sets::{Joining, Numbers};
 use std::alloc::Global;
 use std::test::Fail;
@@ -83,6 +83,7 @@ fn rule_of(alloc: Global, sets: &mut Vec<Numbers>, row: &Row) -> Option<NamedRul
         None => Reach::Itself,
     };
     Some(NamedRule {
+        instance: 0,
         branch: 0,
         source: push_set(alloc, sets, source)?,
         target,
@@ -111,14 +112,20 @@ fn no_branches(alloc: Global) -> Vec<Branch>
     Vec::new(alloc)
 }
 
-/// The rules of all rows with their index. None where there is no memory.
-fn sections_of(alloc: Global, rows: &[Row]) -> Option<Sections> {
-    let mut sets = Vec::new(alloc);
-    let rules = rules_of(alloc, &mut sets, rows)?;
-    Sections::of(alloc, &rules, sets.as_slice(), no_branches(alloc)).ok()
+/// The permissions that rules cover, rule by rule and bit by bit.
+fn walked(sets: &[Numbers], rules: &[NamedRule], source: usize, target: usize, class: usize) -> u32 {
+    let mut mask = 0;
+    for rule in rules {
+        for bit in 0..32 {
+            if covers(sets, rule, source, target, class, bit) {
+                mask |= 1 << bit;
+            }
+        }
+    }
+    mask
 }
 
-/// The permissions that the rules cover, by their index. None where they are others by the rules one by one.
+/// The permissions that rules cover, by their index. None where they are others by the records one by one.
 fn covered(sections: &Sections, source: usize, target: usize, class: usize) -> Option<u32> {
     let settings = Settings::all_off();
     let asked = Asked {
@@ -137,15 +144,25 @@ fn covered(sections: &Sections, source: usize, target: usize, class: usize) -> O
     }
 }
 
-/// Whether the rules of all rows cover what they have to, each once. None where there is no memory.
-fn is_covered(alloc: Global) -> Option<bool> {
-    let sections = sections_of(alloc, ROWS)?;
+/// Whether rules cover what they have to, each once, with their index and without. None where there is no memory.
+fn are_covered(alloc: Global, sets: &[Numbers], rules: &NamedRules) -> Option<bool> {
+    let sections = Sections::of(alloc, rules, sets, no_branches(alloc)).ok()?;
     for &(source, target, class, mask) in COVERED {
         if covered(&sections, source, target, class) != Some(mask) {
             return Some(false);
         }
+        if walked(sets, rules.allow.as_slice(), source, target, class) != mask {
+            return Some(false);
+        }
     }
     Some(sections.allow_len() == ROWS.len() - 1)
+}
+
+/// The same of the rules of all rows.
+fn is_covered(alloc: Global) -> Option<bool> {
+    let mut sets = Vec::new(alloc);
+    let rules = rules_of(alloc, &mut sets, ROWS)?;
+    are_covered(alloc, sets.as_slice(), &rules)
 }
 
 #[test]
@@ -159,7 +176,9 @@ fn a_refused_growth_leaves_no_rule_out(rt: HostRuntime) {
 
 #[test]
 fn there_may_be_no_rules(rt: HostRuntime) -> Result<(), Fail> {
-    let none = sections_of(rt.alloc(), &[]).ok_or("no memory")?;
+    let rules = rules_of(rt.alloc(), &mut Vec::new(rt.alloc()), &[]).ok_or("no memory")?;
+    let none = Sections::of(rt.alloc(), &rules, &[], no_branches(rt.alloc())).ok();
+    let none = none.ok_or("no memory")?;
     assert!(rt; none.allow_len() == 0 && covered(&none, 0, 0, 0) == Some(0));
     Ok(())
 }

@@ -18,7 +18,7 @@ returns-then-not-name_some-clause-added c = λ names known apart standing classe
     (slice_get-map (row_in k) (items_in i) c.args.at ∙ ap (option_map (row_in k)) (item_there i c.args.at c.requires.within)) in
     was_left _ _ c.args.types.now c.args.masks.now x c.push_rules.new.out.items c.args.kept.now _ c.args.at refl
     (subst (AreApart c.args.masks.now) c.as_slice-named.ensures.value (c.name_some.ensures c.if-not-name_some.true))
-    (of_room _ _ c.args.types.now x _ _ c.clear.ensures.items (c.in_ok-push_rules.ensures (items_in i) [] ignored tt tt names known apart standing classes given row))
+    (of_room _ _ c.args.types.now x c.args.at _ _ c.clear.ensures.items (c.in_ok-push_rules.ensures (items_in i) [] ignored tt tt names known apart standing classes given row))
 
 pub returns-clause-added : goal.returns-clause-added
 returns-clause-added c = λ names known apart standing classes given.
@@ -29,4 +29,4 @@ returns-clause-added c = λ names known apart standing classes given.
     (slice_get-map (row_in k) (items_in i) c.args.at ∙ ap (option_map (row_in k)) (item_there i c.args.at c.requires.within)) in
     was_kept _ _ c.args.types.now c.args.masks.now x _ c.args.kept.now c.push.new.self c.args.at
     (c.in_ok-push.ensures ∙ ap (λ l. c.args.kept.now ++ record { place = c.args.at; rules = l } ∷ []) c.as_slice-named.ensures.value)
-    (of_room _ _ c.args.types.now x _ _ c.clear.ensures.items (c.in_ok-push_rules.ensures (items_in i) [] ignored tt tt names known apart standing classes given row))
+    (of_room _ _ c.args.types.now x c.args.at _ _ c.clear.ensures.items (c.in_ok-push_rules.ensures (items_in i) [] ignored tt tt names known apart standing classes given row))

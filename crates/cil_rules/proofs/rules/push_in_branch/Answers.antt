@@ -14,13 +14,13 @@ pub returns-then-not-same_keyword : goal.returns-then-not-same_keyword
 returns-then-not-same_keyword c = λ names known apart standing classes given branches row.
     let i = c.args.instances.now in
     let there = keyword_there i c.args.at c.statement_there.result.now c.statement_there.ensures.is in
-    none_behind _ _ _ _ (other_keyword (items_in i) c.args.known.now c.args.keyword (spelled (names kinds.Boolean)) (item_at i c.args.at)
+    none_behind _ _ _ _ _ _ (other_keyword (items_in i) c.args.known.now c.args.keyword (spelled (names kinds.Boolean)) (item_at i c.args.at)
     (λ e. true≢false (sym (c.same_keyword.ensures.1 (sym there ∙ e)) ∙ c.if-not-same_keyword.true)))
 
 pub returns-in_default : goal.returns-in_default
 returns-in_default c = λ names known apart standing classes given branches row.
     let i = c.args.instances.now in
-    none_behind _ _ _ _ (not_taken (items_in i) c.args.known.now c.args.keyword (spelled (names kinds.Boolean)) (item_at i c.args.at)
+    none_behind _ _ _ _ _ _ (not_taken (items_in i) c.args.known.now c.args.keyword (spelled (names kinds.Boolean)) (item_at i c.args.at)
     (rw c.in_default.is at c.in_ok-branch.ensures (enabled_in c.args.known.now) (names kinds.Boolean) branches))
 
 pub returns : goal.returns

@@ -1,7 +1,7 @@
 use Rattle.cil_macros.specs.Items.{item_at}
 use Rattle.cil_macros.specs.Listed.{all_parts_of}
 use Rattle.cil_macros.specs.ListTerms.{numbered}
-use Rattle.cil_rules.proofs.rules.push_listed.Goals as goal
+use Rattle.cil_rules.proofs.statement.push_listed.Goals as goal
 
 pub returns : goal.returns
 returns c =

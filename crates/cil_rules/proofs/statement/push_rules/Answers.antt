@@ -7,16 +7,16 @@ use Rattle.cil_names.specs.Known.{enabled_in}
 use Rattle.cil_classes.proofs.AlikeLemmas.{itself_there}
 use Rattle.cil_rules.proofs.BehindLemmas.{none_behind}
 use Rattle.cil_rules.proofs.RuleLemmas.{left_out, other_keyword}
-use Rattle.cil_rules.proofs.rules.push_rules.Goals as goal
+use Rattle.cil_rules.proofs.statement.push_rules.Goals as goal
 
 pub returns-then-not-same_keyword : goal.returns-then-not-same_keyword
 returns-then-not-same_keyword c = λ xs branches how taken put names known apart standing classes given are.
     let there = keyword_there c.args.instances.now c.args.at c.statement_there-statement.result.now c.statement_there-statement.ensures.is in
-    none_behind _ _ _ _ (other_keyword xs c.args.known.now c.args.keyword how (item_at c.args.instances.now c.args.at) (λ e. true≢false (sym (c.same_keyword.ensures.1 (sym there ∙ e)) ∙ c.if-not-same_keyword.true)))
+    none_behind _ _ _ _ _ _ (other_keyword xs c.args.known.now c.args.keyword how (item_at c.args.instances.now c.args.at) (λ e. true≢false (sym (c.same_keyword.ensures.1 (sym there ∙ e)) ∙ c.if-not-same_keyword.true)))
 
 pub returns-then-not-is_enabled : goal.returns-then-not-is_enabled
 returns-then-not-is_enabled c = λ xs branches how taken put names known apart standing classes given are.
-    none_behind _ _ _ _ (left_out xs c.args.known.now c.args.keyword how (item_at c.args.instances.now c.args.at) (sym c.is_enabled.ensures ∙ c.if-not-is_enabled.true))
+    none_behind _ _ _ _ _ _ (left_out xs c.args.known.now c.args.keyword how (item_at c.args.instances.now c.args.at) (sym c.is_enabled.ensures ∙ c.if-not-is_enabled.true))
 
 pub returns-then-may_have_list : goal.returns-then-may_have_list
 returns-then-may_have_list c = λ xs branches how taken put names known apart standing classes given row.

@@ -11,9 +11,10 @@ use Rattle.cil_classes.specs.Perms.{AreMasksOf}
 use Rattle.cil_rules.proofs.BehindLemmas.{none_behind}
 use Rattle.cil_rules.proofs.LikeLemmas.{behind_like}
 use Rattle.cil_rules.proofs.RuleLemmas.{class_begins, other_terms, some_rules, source_listed, source_lost, target_begins, without_source, without_target}
-use Rattle.cil_rules.specs.Behind.{rule_with}
-use Rattle.cil_rules.specs.Kept.{set_named}
-use Rattle.cil_rules.proofs.rules.push_said.Goals as goal
+use Rattle.cil_rules.specs.Behind.{AreBehind, rule_with}
+use Rattle.cil_rules.specs.Kept.{rule_named, set_named}
+use Rattle.cil_rules.specs.Records.{CaseBy, IsRuleOf}
+use Rattle.cil_rules.proofs.statement.push_said.Goals as goal
 
 pub returns-in_default : goal.returns-in_default
 returns-in_default c = λ x f alike xs branches keyword how is plain enabled taken put names known apart standing classes given row.
@@ -24,7 +25,7 @@ returns-in_default c = λ x f alike xs branches keyword how is plain enabled tak
     let y = with_args x ts in
     let are = row ∙ row_alike k x ts alike ∙ ap (map (value_in k)) (plain_said y.keyword y.args (ap is_mapping is ∙ plain)) in
     let as_written = behind_like xs (enabled_in k) (names kinds.Type_) c.args.classes.now how keyword x y (like_args x ts alike) in
-    as_written _ _ (none_behind _ _ _ _ (other_terms xs k keyword how y f (args_of s) refl c.in_default.ensures))
+    as_written _ _ _ _ (none_behind _ _ _ _ _ _ (other_terms xs k keyword how y f (args_of s) refl c.in_default.ensures))
 
 pub returns-in_default-some_at : goal.returns-in_default-some_at
 returns-in_default-some_at c = λ x f alike xs branches keyword how is plain enabled taken put names known apart standing classes given row.
@@ -38,7 +39,7 @@ returns-in_default-some_at c = λ x f alike xs branches keyword how is plain ena
     let source = c.in-Some.parts.source in
     let target = said_of m c.in-Some.parts.target.now in
     let class_permission = said_of m c.in-Some.parts.class_permission.now in
-    as_written _ _ (none_behind _ _ _ _ (without_source xs k keyword how y f (args_of s) refl source target class_permission c.in-Some.ensures
+    as_written _ _ _ _ (none_behind _ _ _ _ _ _ (without_source xs k keyword how y f (args_of s) refl source target class_permission c.in-Some.ensures
     (source_lost k xs names known c.args.types.now standing y f (args_of s) refl source target class_permission c.in-Some.ensures c.args.words.now are c.meaning_at.result c.meaning_at.ensures
     c.in_default-some_at.ensures)))
 
@@ -54,7 +55,7 @@ returns-in_default-2 c = λ x f alike xs branches keyword how is plain enabled t
     let source = c.in-Some.parts.source in
     let target = said_of m c.in-Some.parts.target.now in
     let class_permission = said_of m c.in-Some.parts.class_permission.now in
-    as_written _ _ (none_behind _ _ _ _ (without_target xs k keyword how y f (args_of s) refl source target class_permission c.in-Some.ensures
+    as_written _ _ _ _ (none_behind _ _ _ _ _ _ (without_target xs k keyword how y f (args_of s) refl source target class_permission c.in-Some.ensures
     (rw c.in_default-2.is at c.in_ok-target.ensures k xs names f m known standing
     (target_begins k y f (args_of s) refl source target class_permission c.in-Some.ensures c.args.words.now are c.behind_first-of_target.result.now c.behind_first-of_target.ensures))))
 
@@ -78,11 +79,13 @@ returns c = λ x f alike xs branches keyword how is plain enabled taken put name
     let added = c.in_ok-push_perms.ensures xs names f known apart classes given
     (class_begins k y f (args_of s) refl source target class_permission c.in-Some.ensures c.args.words.now are c.behind_first-of_target.result.now c.behind_first-of_target.ensures c.behind-of_class.result.now (c.behind-of_class.ensures f)) in
     let only : c.push_perms.new.out.items ≡ added.masks = added.behind ∙ ap (λ l. l ++ added.masks) c.clear.ensures.items in
-    as_written _ _ (some_rules xs k keyword how y f (args_of s) refl source target class_permission c.in-Some.ensures names known apart branches c.args.branch taken put (names kinds.Type_) types c.args.classes.now c.in_ok-source.source
+    as_written _ _ _ _ (subst (λ p. AreBehind (CaseBy xs (enabled_in k) keyword how) (IsRuleOf xs (enabled_in k) (names kinds.Type_) c.args.classes.now how) (rule_named branches types) y p c.args.out.now.items c.push_named.new.out.items)
+    c.in_ok-instance.ensures
+    (some_rules xs k keyword how y f (args_of s) refl source target class_permission c.in-Some.ensures names known apart branches c.in_ok-instance.instance c.args.branch taken put (names kinds.Type_) types c.args.classes.now c.in_ok-source.source
     source_set (λ e. c.in-Some-some_at.ensures.1 (sym same ∙ e)) c.in-Some-2.target
     (rw c.in-Some-2.is at c.in_ok-target.ensures k xs names f m known standing
     (target_begins k y f (args_of s) refl source target class_permission c.in-Some.ensures c.args.words.now are c.behind_first-of_target.result.now c.behind_first-of_target.ensures))
     c.push_perms.new.out.items (subst (AreMasksOf xs (enabled_in k) c.args.classes.now (term_with f m c.in-Some.parts.class_permission.now)) (sym only) added.are)
     is enabled
     c.args.out.now.items c.push_named.new.out.items
-    (subst (λ ms. c.push_named.new.out.items ≡ c.args.out.now.items ++ map (rule_with c.args.branch c.in_ok-source.source c.in-Some-2.target) ms) c.as_slice.ensures.value c.in_ok-push_named.ensures))
+    (subst (λ ms. c.push_named.new.out.items ≡ c.args.out.now.items ++ map (rule_with c.in_ok-instance.instance c.args.branch c.in_ok-source.source c.in-Some-2.target) ms) c.as_slice.ensures.value c.in_ok-push_named.ensures)))
