@@ -102,7 +102,13 @@ fn show_spaces(alloc: Global, out: &mut String, spaces: &Namespaces, numbers: &[
     out.push_str("\n").is_ok()
 }
 
-fn show_space(alloc: Global, out: &mut String, spaces: &Namespaces, number: usize) -> bool {
+/// Adds the name of a namespace; a dot alone for the global one.
+pub(crate) fn show_space(
+    alloc: Global,
+    out: &mut String,
+    spaces: &Namespaces,
+    number: usize,
+) -> bool {
     if number == 0 {
         return out.push_str(".").is_ok();
     }

@@ -13,6 +13,9 @@ use Rattle.cil_server.specs.Step.{MayLack, Step}
 use Rattle.cil_server.specs.Streams.{InputState, OutputState, Tells, buffer_size, unread}
 use Rattle.cil_server.specs.Taken.{Moves, TakesFront, TakesPlain, TakesSome, ending_of}
 use Rattle.cil_server.specs.Turns.{Announces, AnswersLine, Finishes, Goes, IsAnswered, IsFinished, IsLastTurn, IsRun, IsServed, IsTurnedAt, TellsLast, TurnOf, turn_losses}
+use Rattle.cil_server.specs.Views.{plain_line, plain_request}
+use Rattle.cil_server.specs.declared.line.Plain.{Plain}
+use Rattle.cil_server.specs.declared.line.Plain.TheVariants as plain
 use Rattle.cil_server.specs.declared.served.Served.{Served}
 use Rattle.cil_server.specs.declared.served.Served.TheVariants as served
 use Rattle.cil_server.specs.declared.streams.Broken.{Broken}
@@ -73,6 +76,29 @@ module _ (before after : Option (List ℕ)) (old new : State) (tells : List ℕ 
     next = record { line = line; body = []; is_line = l; body_length = sym none ∙ ap body_of (sym e); is_request = ap (λ z. request_of z []) e ∙ is };
     answered = a;
   }
+
+-- a request without a body is whole behind its line
+pub no_body : (p : Plain) → body_of (plain_line p) ≡ 0
+no_body plain.Export = refl
+no_body plain.List = refl
+no_body plain.Load = refl
+no_body plain.Optionals = refl
+no_body plain.Why = refl
+no_body (plain.Ask q) = refl
+no_body (plain.Check q p) = refl
+no_body (plain.Set b v) = refl
+no_body plain.Unknown = refl
+
+pub is_whole : (p : Plain) → request_of (plain_line p) [] ≡ Some (plain_request p)
+is_whole plain.Export = refl
+is_whole plain.List = refl
+is_whole plain.Load = refl
+is_whole plain.Optionals = refl
+is_whole plain.Why = refl
+is_whole (plain.Ask q) = refl
+is_whole (plain.Check q p) = refl
+is_whole (plain.Set b v) = refl
+is_whole plain.Unknown = refl
 
 pub installs : (count : ℕ) → Announces (Install count) count
 installs count = record { size = refl; request = Installs; is_request = λ body. refl; may_lack = λ h body. MayLack.installs }

@@ -8,23 +8,31 @@ ghost use Rattle.cil_server.specs.Views.{line_of, IsCapped, IsWords};
 /// A line, read.
 #[derive(Clone, Copy)]
 pub(crate) enum Line<'a> {
-    Export,
-    List,
-    Load,
-    Optionals,
-    Quit,
-    Why,
-    Ask(Query<'a>),
-    /// CHECK: a query, and a permission.
-    Check(Query<'a>, &'a [u8]),
-    /// SET: the name of a boolean, and whether it is turned on.
-    Set(&'a [u8], bool),
+    /// A request that is whole.
+    Plain(Plain<'a>),
     /// INSTALL, and how many bytes of body follow.
     Install(usize),
     /// IMPORT, and how many bytes of body follow.
     Import(usize),
     /// A body that is too long.
     TooBig,
+    Quit,
+}
+
+/// A request without a body.
+#[derive(Clone, Copy)]
+pub(crate) enum Plain<'a> {
+    Export,
+    List,
+    Load,
+    Optionals,
+    Why,
+    /// AV.
+    Ask(Query<'a>),
+    /// CHECK: a query, and a permission.
+    Check(Query<'a>, &'a [u8]),
+    /// SET: the name of a boolean, and whether it is turned on.
+    Set(&'a [u8], bool),
     Unknown,
 }
 
@@ -61,7 +69,7 @@ pub(crate) fn read_line(line: &[u8]) -> Line<'_>
         Words::Three(word, name, value) => switched(word, name, value),
         Words::Four(word, query) => queried(word, query.source, query.target, query.class),
         Words::Five(word, query, permission) => checked(word, query, permission),
-        Words::Other => Line::Unknown,
+        Words::Other => Line::Plain(Plain::Unknown),
     }
 }
 
@@ -100,24 +108,24 @@ fn alone(word: &[u8]) -> Line<'static>
     ensures { line_of result ≡ alone word.now }
 {
     if word == b"EXPORT".as_slice() {
-        return Line::Export;
+        return Line::Plain(Plain::Export);
     }
     if word == b"LIST".as_slice() {
-        return Line::List;
+        return Line::Plain(Plain::List);
     }
     if word == b"LOAD".as_slice() {
-        return Line::Load;
+        return Line::Plain(Plain::Load);
     }
     if word == b"OPTIONALS".as_slice() {
-        return Line::Optionals;
+        return Line::Plain(Plain::Optionals);
     }
     if word == b"QUIT".as_slice() {
         return Line::Quit;
     }
     if word == b"WHY".as_slice() {
-        return Line::Why;
+        return Line::Plain(Plain::Why);
     }
-    Line::Unknown
+    Line::Plain(Plain::Unknown)
 }
 
 #[tactic(auto, unfolding(crate::specs::Asked::announced))]
@@ -125,11 +133,11 @@ fn announced(word: &[u8], digits: &[u8]) -> Line<'static>
     ensures { line_of result ≡ announced word.now digits.now }
 {
     if !is_decimal(digits) {
-        return Line::Unknown;
+        return Line::Plain(Plain::Unknown);
     }
     let is_install = word == b"INSTALL".as_slice();
     if !is_install && word != b"IMPORT".as_slice() {
-        return Line::Unknown;
+        return Line::Plain(Plain::Unknown);
     }
     let length = capped_value(digits);
     if length > LONGEST_BODY {
@@ -151,13 +159,13 @@ fn queried<'a>(word: &[u8], source: &'a [u8], target: &'a [u8], class: &'a [u8])
         && target != b"".as_slice()
         && class != b"".as_slice()
     {
-        Line::Ask(Query {
+        Line::Plain(Plain::Ask(Query {
             source,
             target,
             class,
-        })
+        }))
     } else {
-        Line::Unknown
+        Line::Plain(Plain::Unknown)
     }
 }
 
@@ -171,9 +179,9 @@ fn checked<'a>(word: &[u8], query: Query<'a>, permission: &'a [u8]) -> Line<'a>
         && query.class != b"".as_slice()
         && permission != b"".as_slice()
     {
-        Line::Check(query, permission)
+        Line::Plain(Plain::Check(query, permission))
     } else {
-        Line::Unknown
+        Line::Plain(Plain::Unknown)
     }
 }
 
@@ -184,7 +192,7 @@ fn switched<'a>(word: &[u8], name: &'a [u8], value: &[u8]) -> Line<'a>
     if word == b"SET".as_slice() && name != b"".as_slice() {
         valued(name, value)
     } else {
-        Line::Unknown
+        Line::Plain(Plain::Unknown)
     }
 }
 
@@ -193,12 +201,12 @@ fn valued<'a>(name: &'a [u8], value: &[u8]) -> Line<'a>
     ensures { line_of result ≡ valued name.now value.now }
 {
     if value == b"true".as_slice() {
-        return Line::Set(name, true);
+        return Line::Plain(Plain::Set(name, true));
     }
     if value == b"false".as_slice() {
-        return Line::Set(name, false);
+        return Line::Plain(Plain::Set(name, false));
     }
-    Line::Unknown
+    Line::Plain(Plain::Unknown)
 }
 
 /// Whether a word is a decimal without needless zeros.

@@ -5,10 +5,11 @@ ghost use Rattle.cil_server.specs.Asked.Request.{Asks, Checks, Exports, Imports,
 ghost use Rattle.cil_server.specs.Load.{IsLoaded};
 ghost use Rattle.cil_server.specs.Streams.{Tells};
 ghost use Rattle.cil_server.specs.Turns.{IsAnswered};
+ghost use Rattle.cil_server.specs.Views.{plain_request};
 
 use crate::decision_replies::put_decision;
 use crate::devices::Sink;
-use crate::line::Query;
+use crate::line::{Plain, Query};
 use crate::loading::LoadEnd;
 use crate::optional_replies::{put_optionals, put_why};
 use crate::output::Output;
@@ -20,6 +21,37 @@ use cil_base::NoMemory;
 use cil_host::Host;
 use cil_syntax::{Failure, render};
 use std::alloc::Global;
+
+/// Answers a request without a body.
+pub(crate) fn reply<S: Drop, W: Sink>(
+    alloc: Global,
+    host: &mut Host<S>,
+    output: &mut Output<'_, W>,
+    plain: Plain<'_>,
+)
+    requires { output.old.has_failed ≡ false }
+    ensures { IsAnswered host.old (plain_request plain.entry) host.new (Tells output.old output.new) }
+{
+    match plain {
+        Plain::Export => export(alloc, host, output),
+        Plain::List => list(alloc, host, output),
+        Plain::Load => {
+            load(alloc, host, output);
+        }
+        Plain::Optionals => optionals(alloc, host, output),
+        Plain::Why => why(alloc, host, output),
+        Plain::Ask(
+            Query {
+                source,
+                target,
+                class,
+            },
+        ) => { ask(host, output, source, target, class) }
+        Plain::Check(query, permission) => check(host, output, query, permission),
+        Plain::Set(name, value) => set(host, output, name, value),
+        Plain::Unknown => put_refused(output, 81),
+    }
+}
 
 /// INSTALL: hands a text to the host, and replies whether it was new.
 pub(crate) fn install<S: Drop, W: Sink>(
@@ -50,7 +82,7 @@ pub(crate) fn import<S: Drop, W: Sink>(
 }
 
 /// EXPORT: tells the bundle of the modules.
-pub(crate) fn export<S: Drop, W: Sink>(alloc: Global, host: &Host<S>, output: &mut Output<'_, W>)
+fn export<S: Drop, W: Sink>(alloc: Global, host: &Host<S>, output: &mut Output<'_, W>)
     requires { output.old.has_failed ≡ false }
     ensures { IsAnswered host.now Exports host.now (Tells output.old output.new) }
 {
@@ -61,7 +93,7 @@ pub(crate) fn export<S: Drop, W: Sink>(alloc: Global, host: &Host<S>, output: &m
 }
 
 /// LIST: tells a line for each module.
-pub(crate) fn list<S: Drop, W: Sink>(alloc: Global, host: &Host<S>, output: &mut Output<'_, W>)
+fn list<S: Drop, W: Sink>(alloc: Global, host: &Host<S>, output: &mut Output<'_, W>)
     requires { output.old.has_failed ≡ false }
     ensures { IsAnswered host.now Lists host.now (Tells output.old output.new) }
 {
@@ -72,7 +104,7 @@ pub(crate) fn list<S: Drop, W: Sink>(alloc: Global, host: &Host<S>, output: &mut
 }
 
 /// LOAD: loads the modules, or tells their faults. Returns how it ended; whether the writer fails does not count.
-pub(crate) fn load<S: Drop, W: Sink>(
+fn load<S: Drop, W: Sink>(
     alloc: Global,
     host: &mut Host<S>,
     output: &mut Output<'_, W>,
@@ -104,7 +136,7 @@ pub(crate) fn load<S: Drop, W: Sink>(
 }
 
 /// OPTIONALS: tells a line for each optional of the loaded policy.
-pub(crate) fn optionals<S: Drop, W: Sink>(alloc: Global, host: &Host<S>, output: &mut Output<'_, W>)
+fn optionals<S: Drop, W: Sink>(alloc: Global, host: &Host<S>, output: &mut Output<'_, W>)
     requires { output.old.has_failed ≡ false }
     ensures { IsAnswered host.now AsksOptionals host.now (Tells output.old output.new) }
 {
@@ -115,7 +147,7 @@ pub(crate) fn optionals<S: Drop, W: Sink>(alloc: Global, host: &Host<S>, output:
 }
 
 /// WHY: tells a line for each optional that is left out.
-pub(crate) fn why<S: Drop, W: Sink>(alloc: Global, host: &Host<S>, output: &mut Output<'_, W>)
+fn why<S: Drop, W: Sink>(alloc: Global, host: &Host<S>, output: &mut Output<'_, W>)
     requires { output.old.has_failed ≡ false }
     ensures { IsAnswered host.now AsksWhy host.now (Tells output.old output.new) }
 {
@@ -126,7 +158,7 @@ pub(crate) fn why<S: Drop, W: Sink>(alloc: Global, host: &Host<S>, output: &mut 
 }
 
 /// CHECK: tells whether a permission is allowed, or why there is no answer.
-pub(crate) fn check<S: Drop, W: Sink>(
+fn check<S: Drop, W: Sink>(
     host: &mut Host<S>,
     output: &mut Output<'_, W>,
     query: Query<'_>,
@@ -143,7 +175,7 @@ pub(crate) fn check<S: Drop, W: Sink>(
 }
 
 /// SET: turns a boolean on or off, or tells why it cannot.
-pub(crate) fn set<S: Drop, W: Sink>(
+fn set<S: Drop, W: Sink>(
     host: &mut Host<S>,
     output: &mut Output<'_, W>,
     name: &[u8],
@@ -159,7 +191,7 @@ pub(crate) fn set<S: Drop, W: Sink>(
 }
 
 /// AV: tells a decision, or why there is none.
-pub(crate) fn ask<S: Drop, W: Sink>(
+fn ask<S: Drop, W: Sink>(
     host: &mut Host<S>,
     output: &mut Output<'_, W>,
     source: &[u8],

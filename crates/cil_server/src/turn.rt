@@ -13,9 +13,9 @@ ghost use Rattle.cil_server.specs.declared.served.Served.{Served};
 ghost use Rattle.cil_server.specs.declared.turn.Turn.{Turn};
 
 use crate::devices::{Sink, Source};
-use crate::line::{Line, Query};
+use crate::line::Line;
 use crate::replies::put_refused;
-use crate::requests::{ask, check, export, import, install, list, load, optionals, set, why};
+use crate::requests::{import, install, reply};
 use crate::served::Served;
 use crate::streams::{Body, Streams};
 use cil_host::Host;
@@ -44,6 +44,7 @@ impl<'r, 'w, R: Source, W: Sink> Streams<'r, 'w, R, W> {
         ensures at { IsTurnedAt result self.new.input self.new.output }
     {
         match line {
+            Line::Plain(plain) => reply(alloc, host, &mut self.output, plain),
             Line::Install(count) => match self.body_behind(alloc, count) {
                 Ok(text) => install(alloc, host, &mut self.output, text.as_slice()),
                 Err(turn) => return turn,
@@ -52,23 +53,6 @@ impl<'r, 'w, R: Source, W: Sink> Streams<'r, 'w, R, W> {
                 Ok(bundle) => import(alloc, host, &mut self.output, bundle.as_slice()),
                 Err(turn) => return turn,
             },
-            Line::Export => export(alloc, host, &mut self.output),
-            Line::List => list(alloc, host, &mut self.output),
-            Line::Load => {
-                load(alloc, host, &mut self.output);
-            }
-            Line::Optionals => optionals(alloc, host, &mut self.output),
-            Line::Why => why(alloc, host, &mut self.output),
-            Line::Ask(
-                Query {
-                    source,
-                    target,
-                    class,
-                },
-            ) => { ask(host, &mut self.output, source, target, class) }
-            Line::Check(query, permission) => check(host, &mut self.output, query, permission),
-            Line::Set(name, value) => set(host, &mut self.output, name, value),
-            Line::Unknown => put_refused(&mut self.output, 81),
             Line::TooBig => return self.refuse(84),
             Line::Quit => {
                 self.output.put(b"OK\n");

@@ -1,14 +1,12 @@
 use Rattle.std.proofs.Common.{ap, refl, subst}
 use Rattle.cil_server.specs.Asked.{Line as said}
-use Rattle.cil_server.specs.Asked.Request.{AsksOptionals, AsksWhy, Exports, Imports, Installs, Lists, Loads, Unasked}
-use Rattle.cil_server.specs.Replies.{refused}
-use Rattle.cil_server.specs.Step.{Step}
+use Rattle.cil_server.specs.Asked.Request.{Imports, Installs}
 use Rattle.cil_server.specs.Streams.{Tells, unread}
 use Rattle.cil_server.specs.Turns.{IsAnswered}
-use Rattle.cil_server.specs.Views.{line_of}
+use Rattle.cil_server.specs.Views.{line_of, plain_line, plain_request}
 use Rattle.cil_server.specs.declared.served.Served.TheVariants as served
 use Rattle.cil_server.specs.declared.turn.Turn.TheVariants as turns
-use Rattle.cil_server.proofs.SessionLemmas.{alone, answered_after, answered_as, answered_by, bodied, imports, installs, quits, too_big}
+use Rattle.cil_server.proofs.SessionLemmas.{alone, answered_after, answered_as, answered_by, bodied, imports, installs, is_whole, no_body, quits, too_big}
 use Rattle.cil_server.proofs.StreamLemmas.{tells_after}
 use Rattle.cil_server.proofs.streams.Streams.answer.Goals as goal
 
@@ -52,47 +50,12 @@ returns-in-Ok-body_behind-clause-answers g c =
     (bodied (unread c.args.self.now.input) (unread c.body_behind-in-Import.new.self.input) c.args.host.now c.import.new.host tells (said.Import c.in-Import.count)
     (Imports c.in-Ok-body_behind.bundle.items) c.in-Ok-body_behind.bundle.items body.0 body.1 refl answered)
 
-pub returns-in-Export-clause-answers : goal.returns-in-Export-clause-answers
-returns-in-Export-clause-answers g c =
-    answered_as (unread c.args.self.now.input) (unread c.args.self.now.input) c.args.host.now c.args.host.now (Tells c.args.self.now.output c.export.new.output) (line_of c.args.line)
-    said.Export turns.Next (ap line_of c.in-Export.is)
-    (alone (unread c.args.self.now.input) (unread c.args.self.now.input) c.args.host.now c.args.host.now (Tells c.args.self.now.output c.export.new.output) said.Export Exports refl refl refl
-    c.export.ensures)
-
-pub returns-in-List-clause-answers : goal.returns-in-List-clause-answers
-returns-in-List-clause-answers g c =
-    answered_as (unread c.args.self.now.input) (unread c.args.self.now.input) c.args.host.now c.args.host.now (Tells c.args.self.now.output c.list.new.output) (line_of c.args.line)
-    said.List_ turns.Next (ap line_of c.in-List.is)
-    (alone (unread c.args.self.now.input) (unread c.args.self.now.input) c.args.host.now c.args.host.now (Tells c.args.self.now.output c.list.new.output) said.List_ Lists refl refl refl
-    c.list.ensures)
-
-pub returns-in-Load-clause-answers : goal.returns-in-Load-clause-answers
-returns-in-Load-clause-answers g c =
-    answered_as (unread c.args.self.now.input) (unread c.args.self.now.input) c.args.host.now c.load.new.host (Tells c.args.self.now.output c.load.new.output) (line_of c.args.line)
-    said.Load turns.Next (ap line_of c.in-Load.is)
-    (alone (unread c.args.self.now.input) (unread c.args.self.now.input) c.args.host.now c.load.new.host (Tells c.args.self.now.output c.load.new.output) said.Load Loads refl refl refl
-    c.load.ensures.answers)
-
-pub returns-in-Optionals-clause-answers : goal.returns-in-Optionals-clause-answers
-returns-in-Optionals-clause-answers g c =
-    answered_as (unread c.args.self.now.input) (unread c.args.self.now.input) c.args.host.now c.args.host.now (Tells c.args.self.now.output c.optionals.new.output) (line_of c.args.line)
-    said.Optionals turns.Next (ap line_of c.in-Optionals.is)
-    (alone (unread c.args.self.now.input) (unread c.args.self.now.input) c.args.host.now c.args.host.now (Tells c.args.self.now.output c.optionals.new.output) said.Optionals AsksOptionals refl refl refl
-    c.optionals.ensures)
-
-pub returns-in-Why-clause-answers : goal.returns-in-Why-clause-answers
-returns-in-Why-clause-answers g c =
-    answered_as (unread c.args.self.now.input) (unread c.args.self.now.input) c.args.host.now c.args.host.now (Tells c.args.self.now.output c.why.new.output) (line_of c.args.line)
-    said.Why turns.Next (ap line_of c.in-Why.is)
-    (alone (unread c.args.self.now.input) (unread c.args.self.now.input) c.args.host.now c.args.host.now (Tells c.args.self.now.output c.why.new.output) said.Why AsksWhy refl refl refl
-    c.why.ensures)
-
-pub returns-in-Unknown-clause-answers : goal.returns-in-Unknown-clause-answers
-returns-in-Unknown-clause-answers g c =
-    answered_as (unread c.args.self.now.input) (unread c.args.self.now.input) c.args.host.now c.args.host.now (Tells c.args.self.now.output c.put_refused.new.output) (line_of c.args.line)
-    said.Unknown turns.Next (ap line_of c.in-Unknown.is)
-    (alone (unread c.args.self.now.input) (unread c.args.self.now.input) c.args.host.now c.args.host.now (Tells c.args.self.now.output c.put_refused.new.output) said.Unknown Unasked refl
-    refl refl (record { reply = refused 81; step = Step.unknown; told = c.put_refused.ensures }))
+pub returns-in-Plain-clause-answers : goal.returns-in-Plain-clause-answers
+returns-in-Plain-clause-answers g c =
+    let p = c.in-Plain.plain in
+    let tells = Tells c.args.self.now.output c.reply.new.output in
+    answered_as (unread c.args.self.now.input) (unread c.args.self.now.input) c.args.host.now c.reply.new.host tells (line_of c.args.line) (plain_line p) turns.Next (ap line_of c.in-Plain.is)
+    (alone (unread c.args.self.now.input) (unread c.args.self.now.input) c.args.host.now c.reply.new.host tells (plain_line p) (plain_request p) refl (no_body p) (is_whole p) c.reply.ensures)
 
 pub returns-in-TooBig-clause-answers : goal.returns-in-TooBig-clause-answers
 returns-in-TooBig-clause-answers g c =
