@@ -1,7 +1,7 @@
-//! The tests of the libraries from blocks to optionals, of class permissions and of the places of rules: what neither a clause nor a session says. What is placed,
-//! look-up, the numbers of symbols, wrong choices of optionals, and what is made by hand. What a session can show is a row in `rows/`.
-//! Expected values come from the rules of the language, never from this program. They stand in a crate of their own, which a change of rules
-//! or of decisions does not prove anew, and which is proved beside the crates above it.
+//! The tests of the libraries from blocks to optionals, of class permissions and of the places of rules: what neither a clause nor a session
+//! says. What is placed, look-up, the numbers of symbols, wrong choices of optionals, and what is made by hand. What a session can show is a
+//! row in `rows/`. Expected values come from the rules of the language, never from this program. They stand in a crate of their own, which a
+//! change of decisions does not prove anew, and which is proved beside the crates above it.
 #![tactic(auto)]
 
 #[cfg(test)]

@@ -9,6 +9,7 @@ pub mod CompileSteps
 pub mod Compiled
 pub mod Contexts
 pub mod Faults
+pub mod Filled
 pub mod Holders
 pub mod Laws
 pub mod Links

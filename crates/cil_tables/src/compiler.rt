@@ -22,19 +22,16 @@ ghost use Rattle.cil_tables.specs.Compiled.{IsTable};
 ghost use Rattle.cil_classes.specs.ClassRows.{AreRowsOf};
 ghost use Rattle.cil_tables.specs.SetsStep.{SetsFault};
 ghost use Rattle.cil_tables.specs.Standings.{AllStand};
-ghost use Rattle.cil_tables.specs.Sections.{table_from};
-ghost use Rattle.cil_tables.specs.Table.{IsOrderly, most_booleans};
+ghost use Rattle.cil_tables.specs.Table.{most_booleans};
 
-use crate::booleans::booleans_of;
 use crate::both::{Both, together};
-use crate::forbidden::check_forbidden;
+use crate::filled::{filled, tables_from};
 use crate::limit::check_booleans;
-use crate::sections::{Given, given_of};
 use crate::standings::{Standings, standings_of};
-use crate::tables::{Boolean, Tables};
-use cil_base::{Bytes, Names, NoMemory};
+use crate::tables::Tables;
+use cil_base::{Bytes, NoMemory};
 use cil_blocks::{Spaces, inherit};
-use cil_classes::{Classes, classes, given_permissions};
+use cil_classes::{Classes, classes};
 use cil_faults::Failure;
 use cil_macros::{Instances, expand};
 use cil_modset::ModuleSet;
@@ -235,58 +232,8 @@ fn tables_of(
         second: _,
     } = others;
     let rows = classes.rows.as_slice();
-    let held = given_permissions(alloc, instances, &known, rows)?;
-    let types = numbering.sections.types.as_slice();
-    check_forbidden(alloc, instances, &known, types, &stand, rows, &held)?;
-    let given = given_of(alloc, instances, &known, &stand, rows, &held)?;
-    let booleans = booleans_of(
-        alloc,
-        instances,
-        &known,
-        numbering.sections.booleans.as_slice(),
-    )?;
-    Ok(tables_from(numbering, classes, booleans, given))
-}
-
-/// The tables of these sections.
-fn tables_from(
-    numbering: Numbering,
-    classes: Classes,
-    booleans: Vec<Boolean>,
-    given: Given,
-) -> Tables
-    requires { IsOrderly (table_from numbering.sections classes.rows.items booleans.items given) }
-    ensures { result ≡ table_from numbering.sections classes.rows.items booleans.items given }
-{
-    let Numbering {
-        sections,
-        numbers: _,
-    } = numbering;
-    let Sections {
-        users,
-        roles,
-        types,
-        classes: _,
-        booleans: _,
-    } = sections;
-    let Classes { rows } = classes;
-    let Given {
-        user_roles,
-        role_types,
-        type_aliases,
-        rules,
-    } = given;
-    Tables {
-        users: Names::from_vec(users),
-        roles: Names::from_vec(roles),
-        types: Names::from_vec(types),
-        type_aliases,
-        classes: rows,
-        booleans,
-        user_roles,
-        role_types,
-        rules,
-    }
+    let filled = filled(alloc, instances, &known, &numbering.sections, &stand, rows)?;
+    Ok(tables_from(numbering, classes, filled))
 }
 
 /// The classes of a policy, and what its words stand for.

@@ -12,6 +12,7 @@ mod booleans;
 mod both;
 mod compiler;
 mod context;
+mod filled;
 mod forbidden;
 mod holders;
 pub mod laws;

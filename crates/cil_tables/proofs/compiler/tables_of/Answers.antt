@@ -45,12 +45,17 @@ judged_sets-requires-clause-numbers c = c.as_slice.ensures.value
 pub judged_sets-requires-clause-apart : goal.judged_sets-requires-clause-apart
 judged_sets-requires-clause-apart c = subst (AreApart c.args.lookup.now.names.now (is_in c.args.lookup.now.enabled.now)) (sym c.as_slice.ensures.value) (c.in_ok-numbering.ensures.apart c.requires.plain)
 
-pub given_permissions-requires-clause-rows : goal.given_permissions-requires-clause-rows
-given_permissions-requires-clause-rows c = subst AreOrderlyRows (sym c.as_slice-rows.ensures.value)
-    (rows_orderly c.args.lookup.now.namespaces.now (items_in c.args.instances.now) c.args.lookup.now.names.now c.requires.entries (is_in c.args.lookup.now.enabled.now) c.in_ok-numbering.numbering.sections c.in_ok-numbering.numbering.numbers.items c.in_ok-numbering.ensures.numbers (c.in_ok-numbering.ensures.apart c.requires.plain) c.args.permissions.now c.requires.permissions c.in_ok-judged.judged.first.rows.items c.in_ok-judged.ensures.0.0 (λ f e. c.in_ok-judged.ensures.1 f (inl e)))
+pub filled-requires-clause-namespaces : goal.filled-requires-clause-namespaces
+filled-requires-clause-namespaces c = c.requires.namespaces
 
-pub given_permissions-requires-clause-known : goal.given_permissions-requires-clause-known
-given_permissions-requires-clause-known c =
+pub filled-requires-clause-ordered : goal.filled-requires-clause-ordered
+filled-requires-clause-ordered c = c.requires.entries.ordered
+
+pub filled-requires-clause-table : goal.filled-requires-clause-table
+filled-requires-clause-table c = c.requires.table
+
+pub filled-requires-clause-known : goal.filled-requires-clause-known
+filled-requires-clause-known c =
     let known : AreKnown c.args.lookup.now.namespaces.now (items_in c.args.instances.now) c.args.lookup.now.names.now (is_in c.args.lookup.now.enabled.now) (names_of c.in_ok-numbering.numbering.sections) c.as_slice.result.now c.args.permissions.now =
     record {
       namespaces = c.are_namespaces.ensures;
@@ -58,55 +63,36 @@ given_permissions-requires-clause-known c =
       numbered = subst (AreNumbers c.args.lookup.now.namespaces.now c.args.lookup.now.names.now (is_in c.args.lookup.now.enabled.now) (names_of c.in_ok-numbering.numbering.sections)) (sym c.as_slice.ensures.value) c.in_ok-numbering.ensures.numbers;
       permissions = c.requires.permissions;
     } in
-    let classes : AreClasses (items_in c.args.instances.now) (is_in c.args.lookup.now.enabled.now) c.in_ok-numbering.numbering.sections.classes.items c.as_slice-rows.result.now =
+    known
+
+pub filled-requires-clause-apart : goal.filled-requires-clause-apart
+filled-requires-clause-apart c = subst (AreApart c.args.lookup.now.names.now (is_in c.args.lookup.now.enabled.now)) (sym c.as_slice.ensures.value) (c.in_ok-numbering.ensures.apart c.requires.plain)
+
+pub filled-requires-clause-stand : goal.filled-requires-clause-stand
+filled-requires-clause-stand c = c.in_ok-judged.ensures.0.1.0
+
+pub filled-requires-clause-classes : goal.filled-requires-clause-classes
+filled-requires-clause-classes c =
     subst (AreClasses (items_in c.args.instances.now) (is_in c.args.lookup.now.enabled.now) c.in_ok-numbering.numbering.sections.classes.items) (sym c.as_slice-rows.ensures.value)
-    (classes_are c.args.lookup.now.namespaces.now (items_in c.args.instances.now) c.args.lookup.now.names.now c.requires.entries (is_in c.args.lookup.now.enabled.now) c.in_ok-numbering.numbering.sections c.in_ok-numbering.numbering.numbers.items c.in_ok-numbering.ensures.numbers (c.in_ok-numbering.ensures.apart c.requires.plain) c.args.permissions.now c.requires.permissions c.in_ok-judged.judged.first.rows.items c.in_ok-judged.ensures.0.0) in
-    (names_of c.in_ok-numbering.numbering.sections, known, classes)
+    (classes_are c.args.lookup.now.namespaces.now (items_in c.args.instances.now) c.args.lookup.now.names.now c.requires.entries (is_in c.args.lookup.now.enabled.now) c.in_ok-numbering.numbering.sections c.in_ok-numbering.numbering.numbers.items c.in_ok-numbering.ensures.numbers (c.in_ok-numbering.ensures.apart c.requires.plain) c.args.permissions.now c.requires.permissions c.in_ok-judged.judged.first.rows.items c.in_ok-judged.ensures.0.0)
 
-pub given_permissions-requires-clause-apart : goal.given_permissions-requires-clause-apart
-given_permissions-requires-clause-apart c = subst (AreApart c.args.lookup.now.names.now (is_in c.args.lookup.now.enabled.now)) (sym c.as_slice.ensures.value) (c.in_ok-numbering.ensures.apart c.requires.plain)
-
-pub check_forbidden-requires-clause-nodes : goal.check_forbidden-requires-clause-nodes
-check_forbidden-requires-clause-nodes c = c.in_ok-held.ensures.nodes_rise
-
-pub check_forbidden-requires-clause-rows : goal.check_forbidden-requires-clause-rows
-check_forbidden-requires-clause-rows c = subst AreOrderlyRows (sym c.as_slice-rows.ensures.value)
-    (rows_orderly c.args.lookup.now.namespaces.now (items_in c.args.instances.now) c.args.lookup.now.names.now c.requires.entries (is_in c.args.lookup.now.enabled.now) c.in_ok-numbering.numbering.sections c.in_ok-numbering.numbering.numbers.items c.in_ok-numbering.ensures.numbers (c.in_ok-numbering.ensures.apart c.requires.plain) c.args.permissions.now c.requires.permissions c.in_ok-judged.judged.first.rows.items c.in_ok-judged.ensures.0.0 (λ f e. c.in_ok-judged.ensures.1 f (inl e)))
-
-pub given_of-requires-clause-ordered : goal.given_of-requires-clause-ordered
-given_of-requires-clause-ordered c = c.requires.entries.ordered
-
-pub given_of-requires-clause-nodes : goal.given_of-requires-clause-nodes
-given_of-requires-clause-nodes c = c.in_ok-held.ensures.nodes_rise
-
-pub given_of-requires-clause-rows : goal.given_of-requires-clause-rows
-given_of-requires-clause-rows c = subst AreOrderlyRows (sym c.as_slice-rows.ensures.value)
+pub filled-requires-clause-rows : goal.filled-requires-clause-rows
+filled-requires-clause-rows c = subst AreOrderlyRows (sym c.as_slice-rows.ensures.value)
     (rows_orderly c.args.lookup.now.namespaces.now (items_in c.args.instances.now) c.args.lookup.now.names.now c.requires.entries (is_in c.args.lookup.now.enabled.now) c.in_ok-numbering.numbering.sections c.in_ok-numbering.numbering.numbers.items c.in_ok-numbering.ensures.numbers (c.in_ok-numbering.ensures.apart c.requires.plain) c.args.permissions.now c.requires.permissions c.in_ok-judged.judged.first.rows.items c.in_ok-judged.ensures.0.0 (λ f e. c.in_ok-judged.ensures.1 f (inl e)))
 
 pub tables_from-requires : goal.tables_from-requires
 tables_from-requires c =
-    let same_booleans : boolean_names c.in_ok-booleans.booleans.items ≡ c.in_ok-numbering.numbering.sections.booleans.items = c.in_ok-booleans.ensures.names ∙ c.as_slice-2.ensures.value in
-    let known : AreKnown c.args.lookup.now.namespaces.now (items_in c.args.instances.now) c.args.lookup.now.names.now (is_in c.args.lookup.now.enabled.now) (names_of c.in_ok-numbering.numbering.sections) c.as_slice.result.now c.args.permissions.now =
-    record {
-      namespaces = c.are_namespaces.ensures;
-      entries = c.requires.entries;
-      numbered = subst (AreNumbers c.args.lookup.now.namespaces.now c.args.lookup.now.names.now (is_in c.args.lookup.now.enabled.now) (names_of c.in_ok-numbering.numbering.sections)) (sym c.as_slice.ensures.value) c.in_ok-numbering.ensures.numbers;
-      permissions = c.requires.permissions;
-    } in
-    let classes : AreClasses (items_in c.args.instances.now) (is_in c.args.lookup.now.enabled.now) c.in_ok-numbering.numbering.sections.classes.items c.as_slice-rows.result.now =
-    subst (AreClasses (items_in c.args.instances.now) (is_in c.args.lookup.now.enabled.now) c.in_ok-numbering.numbering.sections.classes.items) (sym c.as_slice-rows.ensures.value)
-    (classes_are c.args.lookup.now.namespaces.now (items_in c.args.instances.now) c.args.lookup.now.names.now c.requires.entries (is_in c.args.lookup.now.enabled.now) c.in_ok-numbering.numbering.sections c.in_ok-numbering.numbering.numbers.items c.in_ok-numbering.ensures.numbers (c.in_ok-numbering.ensures.apart c.requires.plain) c.args.permissions.now c.requires.permissions c.in_ok-judged.judged.first.rows.items c.in_ok-judged.ensures.0.0) in
-    let apart = subst (AreApart c.args.lookup.now.names.now (is_in c.args.lookup.now.enabled.now)) (sym c.as_slice.ensures.value) (c.in_ok-numbering.ensures.apart c.requires.plain) in
-    let given = c.in_ok-given.ensures (names_of c.in_ok-numbering.numbering.sections) known apart (c.in_ok-judged.ensures.0.1.0) classes c.in_ok-held.ensures in
+    let filled = c.in_ok-filled.ensures.0 in
+    let given = filled.given in
     record {
       users = (c.in_ok-numbering.ensures.numbers.lists kinds.User refl).rising;
       roles = (c.in_ok-numbering.ensures.numbers.lists kinds.Role refl).rising;
       types = (c.in_ok-numbering.ensures.numbers.lists kinds.Type_ refl).rising;
-      booleans = subst (IsStrictlySortedBy text_cmp) (sym same_booleans) (c.in_ok-numbering.ensures.numbers.lists kinds.Boolean refl).rising;
+      booleans = subst (IsStrictlySortedBy text_cmp) (sym filled.booleans) (c.in_ok-numbering.ensures.numbers.lists kinds.Boolean refl).rising;
       few_booleans =
           let few = c.in_ok-judged.ensures.0.1.1 in
-          let len = length-map c.in_ok-booleans.booleans.items (λ (b : Boolean). b.name) in
-          let same = ap length same_booleans in
+          let len = length-map c.in_ok-filled.filled.booleans.items (λ (b : Boolean). b.name) in
+          let same = ap length filled.booleans in
           omega (arith, few, len, same);
       classes = classes_rise c.args.lookup.now.namespaces.now (items_in c.args.instances.now) c.args.lookup.now.names.now c.requires.entries (is_in c.args.lookup.now.enabled.now) c.in_ok-numbering.numbering.sections c.in_ok-numbering.numbering.numbers.items c.in_ok-numbering.ensures.numbers (c.in_ok-numbering.ensures.apart c.requires.plain) c.args.permissions.now c.requires.permissions c.in_ok-judged.judged.first.rows.items c.in_ok-judged.ensures.0.0;
       type_aliases = given.type_aliases.rising;
@@ -115,48 +101,25 @@ tables_from-requires c =
       each_class = rows_orderly c.args.lookup.now.namespaces.now (items_in c.args.instances.now) c.args.lookup.now.names.now c.requires.entries (is_in c.args.lookup.now.enabled.now) c.in_ok-numbering.numbering.sections c.in_ok-numbering.numbering.numbers.items c.in_ok-numbering.ensures.numbers (c.in_ok-numbering.ensures.apart c.requires.plain) c.args.permissions.now c.requires.permissions c.in_ok-judged.judged.first.rows.items c.in_ok-judged.ensures.0.0 (λ f e. c.in_ok-judged.ensures.1 f (inl e));
     }
 
-pub returns-in_err-check_forbidden-clause-faults : goal.returns-in_err-check_forbidden-clause-faults
-returns-in_err-check_forbidden-clause-faults c =
-    let known : AreKnown c.args.lookup.now.namespaces.now (items_in c.args.instances.now) c.args.lookup.now.names.now (is_in c.args.lookup.now.enabled.now) (names_of c.in_ok-numbering.numbering.sections) c.as_slice.result.now c.args.permissions.now =
-    record {
-      namespaces = c.are_namespaces.ensures;
-      entries = c.requires.entries;
-      numbered = subst (AreNumbers c.args.lookup.now.namespaces.now c.args.lookup.now.names.now (is_in c.args.lookup.now.enabled.now) (names_of c.in_ok-numbering.numbering.sections)) (sym c.as_slice.ensures.value) c.in_ok-numbering.ensures.numbers;
-      permissions = c.requires.permissions;
-    } in
-    let classes : AreClasses (items_in c.args.instances.now) (is_in c.args.lookup.now.enabled.now) c.in_ok-numbering.numbering.sections.classes.items c.as_slice-rows.result.now =
-    subst (AreClasses (items_in c.args.instances.now) (is_in c.args.lookup.now.enabled.now) c.in_ok-numbering.numbering.sections.classes.items) (sym c.as_slice-rows.ensures.value)
-    (classes_are c.args.lookup.now.namespaces.now (items_in c.args.instances.now) c.args.lookup.now.names.now c.requires.entries (is_in c.args.lookup.now.enabled.now) c.in_ok-numbering.numbering.sections c.in_ok-numbering.numbering.numbers.items c.in_ok-numbering.ensures.numbers (c.in_ok-numbering.ensures.apart c.requires.plain) c.args.permissions.now c.requires.permissions c.in_ok-judged.judged.first.rows.items c.in_ok-judged.ensures.0.0) in
-    let apart = subst (AreApart c.args.lookup.now.names.now (is_in c.args.lookup.now.enabled.now)) (sym c.as_slice.ensures.value) (c.in_ok-numbering.ensures.apart c.requires.plain) in
-    handed_on (LaterFail (items_in c.args.instances.now) (is_in c.args.lookup.now.enabled.now)) _ _ c.from_residual-in_err-check_forbidden.ensures.1
-    (forbidden_fail (items_in c.args.instances.now) (is_in c.args.lookup.now.enabled.now) c.in_ok-judged.ensures.1 _
-    (c.in_err-check_forbidden.ensures (names_of c.in_ok-numbering.numbering.sections) (sym c.as_slice-types.ensures.value) known apart (c.in_ok-judged.ensures.0.1.0) classes c.in_ok-held.ensures))
+pub returns-in_err-filled-clause-faults : goal.returns-in_err-filled-clause-faults
+returns-in_err-filled-clause-faults c =
+    handed_on (LaterFail (items_in c.args.instances.now) (is_in c.args.lookup.now.enabled.now)) _ _ c.from_residual-in_err-filled.ensures.1
+    (forbidden_fail (items_in c.args.instances.now) (is_in c.args.lookup.now.enabled.now) c.in_ok-judged.ensures.1 _ c.in_err-filled.ensures)
 
 pub returns-clause-tables : goal.returns-clause-tables
 returns-clause-tables c =
-    let same_booleans : boolean_names c.in_ok-booleans.booleans.items ≡ c.in_ok-numbering.numbering.sections.booleans.items = c.in_ok-booleans.ensures.names ∙ c.as_slice-2.ensures.value in
-    let known : AreKnown c.args.lookup.now.namespaces.now (items_in c.args.instances.now) c.args.lookup.now.names.now (is_in c.args.lookup.now.enabled.now) (names_of c.in_ok-numbering.numbering.sections) c.as_slice.result.now c.args.permissions.now =
-    record {
-      namespaces = c.are_namespaces.ensures;
-      entries = c.requires.entries;
-      numbered = subst (AreNumbers c.args.lookup.now.namespaces.now c.args.lookup.now.names.now (is_in c.args.lookup.now.enabled.now) (names_of c.in_ok-numbering.numbering.sections)) (sym c.as_slice.ensures.value) c.in_ok-numbering.ensures.numbers;
-      permissions = c.requires.permissions;
-    } in
     let names = names_are c.args.lookup.now.namespaces.now (items_in c.args.instances.now) c.args.lookup.now.names.now c.requires.entries (is_in c.args.lookup.now.enabled.now) in
-    let classes : AreClasses (items_in c.args.instances.now) (is_in c.args.lookup.now.enabled.now) c.in_ok-numbering.numbering.sections.classes.items c.as_slice-rows.result.now =
-    subst (AreClasses (items_in c.args.instances.now) (is_in c.args.lookup.now.enabled.now) c.in_ok-numbering.numbering.sections.classes.items) (sym c.as_slice-rows.ensures.value)
-    (classes_are c.args.lookup.now.namespaces.now (items_in c.args.instances.now) c.args.lookup.now.names.now c.requires.entries (is_in c.args.lookup.now.enabled.now) c.in_ok-numbering.numbering.sections c.in_ok-numbering.numbering.numbers.items c.in_ok-numbering.ensures.numbers (c.in_ok-numbering.ensures.apart c.requires.plain) c.args.permissions.now c.requires.permissions c.in_ok-judged.judged.first.rows.items c.in_ok-judged.ensures.0.0) in
-    let apart = subst (AreApart c.args.lookup.now.names.now (is_in c.args.lookup.now.enabled.now)) (sym c.as_slice.ensures.value) (c.in_ok-numbering.ensures.apart c.requires.plain) in
-    let given = c.in_ok-given.ensures (names_of c.in_ok-numbering.numbering.sections) known apart (c.in_ok-judged.ensures.0.1.0) classes c.in_ok-held.ensures in (
+    let filled = c.in_ok-filled.ensures.0 in
+    let given = filled.given in (
       subst (IsTable (items_in c.args.instances.now) (is_in c.args.lookup.now.enabled.now)) (sym c.tables_from.ensures)
-          (table_of (items_in c.args.instances.now) (is_in c.args.lookup.now.enabled.now) (names_of c.in_ok-numbering.numbering.sections) _ _ _ _ c.in_ok-judged.judged.first.rows.items c.in_ok-booleans.booleans.items _ _ _
+          (table_of (items_in c.args.instances.now) (is_in c.args.lookup.now.enabled.now) (names_of c.in_ok-numbering.numbering.sections) _ _ _ _ c.in_ok-judged.judged.first.rows.items c.in_ok-filled.filled.booleans.items _ _ _
           refl refl refl
           (names kinds.User _ (c.in_ok-numbering.ensures.numbers.lists kinds.User refl)) (names kinds.Role _ (c.in_ok-numbering.ensures.numbers.lists kinds.Role refl))
           (names kinds.Type_ _ (c.in_ok-numbering.ensures.numbers.lists kinds.Type_ refl))
-          (names kinds.Boolean _ (c.in_ok-numbering.ensures.numbers.lists kinds.Boolean refl)) same_booleans c.in_ok-booleans.ensures.defaults given.type_aliases
+          (names kinds.Boolean _ (c.in_ok-numbering.ensures.numbers.lists kinds.Boolean refl)) filled.booleans filled.defaults given.type_aliases
           (classes_given c.args.lookup.now.namespaces.now (items_in c.args.instances.now) c.args.lookup.now.names.now c.requires.entries (is_in c.args.lookup.now.enabled.now) c.in_ok-numbering.numbering.sections c.in_ok-numbering.numbering.numbers.items c.in_ok-numbering.ensures.numbers (c.in_ok-numbering.ensures.apart c.requires.plain) c.args.permissions.now c.requires.permissions c.in_ok-judged.judged.first.rows.items c.in_ok-judged.ensures.0.0)
           given.user_roles given.role_types
-          (subst (λ (rows : List Class). AreRules (items_in c.args.instances.now) (is_in c.args.lookup.now.enabled.now) (names_of c.in_ok-numbering.numbering.sections kinds.Type_) rows (names_of c.in_ok-numbering.numbering.sections kinds.Boolean) c.in_ok-given.given.rules)
+          (subst (λ (rows : List Class). AreRules (items_in c.args.instances.now) (is_in c.args.lookup.now.enabled.now) (names_of c.in_ok-numbering.numbering.sections kinds.Type_) rows (names_of c.in_ok-numbering.numbering.sections kinds.Boolean) c.in_ok-filled.filled.given.rules)
           c.as_slice-rows.ensures.value given.rules)),
-      inr (c.in_ok-judged.ensures.1, inr ((c.in_ok-check_forbidden.ensures (names_of c.in_ok-numbering.numbering.sections) (sym c.as_slice-types.ensures.value) known apart (c.in_ok-judged.ensures.0.1.0) classes c.in_ok-held.ensures).1, refl)),
+      inr (c.in_ok-judged.ensures.1, inr (c.in_ok-filled.ensures.1, refl)),
     )

@@ -1,7 +1,7 @@
 use Rattle.std.proofs.Common.{subst, sym}
 use Rattle.std.specs.List.Sorted.{IsStrictlySortedBy}
 use Rattle.cil_base.specs.Lists.{text_cmp}
-use Rattle.cil_tables.proofs.compiler.tables_from.Goals as goal
+use Rattle.cil_tables.proofs.filled.tables_from.Goals as goal
 
 pub invariant_of-result : goal.invariant_of-result
 invariant_of-result c = record {
@@ -22,10 +22,10 @@ returns c = λ i. record {
   users = c.from_vec.ensures i;
   roles = c.from_vec-2.ensures i;
   types = c.from_vec-3.ensures i;
-  type_aliases = c.args.given.type_aliases.items;
+  type_aliases = c.args.filled.given.type_aliases.items;
   classes = c.args.classes.rows.items;
-  booleans = c.args.booleans.items;
-  user_roles = c.args.given.user_roles;
-  role_types = c.args.given.role_types;
-  rules = c.args.given.rules;
+  booleans = c.args.filled.booleans.items;
+  user_roles = c.args.filled.given.user_roles;
+  role_types = c.args.filled.given.role_types;
+  rules = c.args.filled.given.rules;
 }
