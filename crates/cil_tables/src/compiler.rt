@@ -107,9 +107,9 @@ fn placed_policy(alloc: Global, instances: &Instances) -> Result<Compiled, Failu
     named_policy(
         alloc,
         &*instances,
-        &names,
         permissions.as_slice(),
         shared.as_slice(),
+        &names,
     )
 }
 
@@ -120,9 +120,9 @@ fn placed_policy(alloc: Global, instances: &Instances) -> Result<Compiled, Failu
 fn named_policy<'a>(
     alloc: Global,
     instances: &Instances<'_, '_, 'a>,
-    names: &DeclaredNames<'a>,
     permissions: &[Vec<Bytes>],
     shared: &[Shared],
+    names: &DeclaredNames<'a>,
 ) -> Result<Compiled, Failure>
     requires { HaveNames (namespaces_in instances.now) names.now (items_in instances.now) permissions.now shared.now }
     ensures compiled { IfOk result (IsCompiledOf (items_in instances.now)) }
@@ -132,7 +132,7 @@ fn named_policy<'a>(
     let chosen = greatest_of(alloc, &*instances, &*names, &asks)?;
     judged(alloc, &*instances, &*names, &asks, &chosen.enabled)?;
     let words = settled(alloc, names, asks, &chosen.enabled)?;
-    chosen_policy(alloc, instances, names, permissions, shared, &words, chosen)
+    chosen_policy(alloc, instances, permissions, shared, &words, names, chosen)
 }
 
 /// What all that is placed compiles to, where these optionals are in force and its words have these meanings.
@@ -141,10 +141,10 @@ fn named_policy<'a>(
 fn chosen_policy(
     alloc: Global,
     instances: &Instances,
-    names: &DeclaredNames,
     permissions: &[Vec<Bytes>],
     shared: &[Shared],
     words: &Words,
+    names: &DeclaredNames,
     chosen: Chosen,
 ) -> Result<Compiled, Failure>
     requires named { HaveNames (namespaces_in instances.now) names.now (items_in instances.now) permissions.now shared.now }
@@ -158,7 +158,7 @@ fn chosen_policy(
         names,
         enabled: &chosen.enabled,
     };
-    let tables = tables_of(alloc, instances, &lookup, words, permissions, shared)?;
+    let tables = tables_of(alloc, instances, permissions, shared, words, &lookup)?;
     let lines = lines_of(alloc, instances, &chosen)?;
     let Lines { optionals, reasons } = lines;
     let Chosen {
@@ -199,10 +199,10 @@ fn lines_of(alloc: Global, instances: &Instances, chosen: &Chosen) -> Result<Lin
 fn tables_of(
     alloc: Global,
     instances: &Instances,
-    lookup: &Lookup,
-    words: &Words,
     permissions: &[Vec<Bytes>],
     shared: &[Shared],
+    words: &Words,
+    lookup: &Lookup,
 ) -> Result<Tables, Failure>
     requires namespaces { lookup.now.namespaces.now ≡ namespaces_in instances.now }
     requires entries { AreEntries lookup.now.namespaces.now (items_in instances.now) lookup.now.names.now }
