@@ -76,7 +76,9 @@ impl Rules {
         requires within { (rule_at self.now number).instance < length (items_in instances.now) }
         ensures { result ≡ (item_at instances.now (rule_at self.now number).instance).at }
     {
-        instances.statement_there(self.rules[number].instance as usize).at
+        instances
+            .statement_there(self.rules[number].instance as usize)
+            .at
     }
 
     /// The number of the namespace in which the statement of a rule is placed.

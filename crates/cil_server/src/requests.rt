@@ -104,7 +104,7 @@ fn list<S: Drop, W: Sink>(alloc: Global, host: &Host<S>, output: &mut Output<'_,
 }
 
 /// LOAD: loads the modules, or tells their faults. Returns how it ended; whether the writer fails does not count.
-fn load<S: Drop, W: Sink>(
+pub(crate) fn load<S: Drop, W: Sink>(
     alloc: Global,
     host: &mut Host<S>,
     output: &mut Output<'_, W>,
@@ -175,12 +175,7 @@ fn check<S: Drop, W: Sink>(
 }
 
 /// SET: turns a boolean on or off, or tells why it cannot.
-fn set<S: Drop, W: Sink>(
-    host: &mut Host<S>,
-    output: &mut Output<'_, W>,
-    name: &[u8],
-    value: bool,
-)
+fn set<S: Drop, W: Sink>(host: &mut Host<S>, output: &mut Output<'_, W>, name: &[u8], value: bool)
     requires { output.old.has_failed ≡ false }
     ensures { IsAnswered host.old (Sets name.now value) host.new (Tells output.old output.new) }
 {

@@ -113,7 +113,13 @@ fn no_branches(alloc: Global) -> Vec<Branch>
 }
 
 /// The permissions that rules cover, rule by rule and bit by bit.
-fn walked(sets: &[Numbers], rules: &[NamedRule], source: usize, target: usize, class: usize) -> u32 {
+fn walked(
+    sets: &[Numbers],
+    rules: &[NamedRule],
+    source: usize,
+    target: usize,
+    class: usize,
+) -> u32 {
     let mut mask = 0;
     for rule in rules {
         for bit in 0..32 {
