@@ -160,12 +160,20 @@ fn first_unlike(alloc: Global, declared: &[Declared], words: &[Row]) -> Option<u
     None
 }
 
+/// The number of the first table with such a word, and that of the word.
+fn first_wrong(alloc: Global, tables: &[(&[Declared], &[Row])]) -> Option<(usize, usize)> {
+    for (i, (declared, words)) in tables.iter().enumerate() {
+        if let Some(word) = first_unlike(alloc, declared, words) {
+            return Some((i, word));
+        }
+    }
+    None
+}
+
 #[test]
 fn words_name_the_first_that_is_declared(rt: HostRuntime) {
-    for &(declared, words) in TABLES {
-        let unlike = first_unlike(rt.alloc(), declared, words);
-        assert!(rt; unlike.is_none(), "word {unlike:?} of {}", words.len());
-    }
+    let wrong = first_wrong(rt.alloc(), TABLES);
+    assert!(rt; wrong.is_none(), "table and word {wrong:?}");
 }
 
 /// A class behind the class `z` of the namespace 3, and whether both rise.
