@@ -9,7 +9,6 @@ use std::alloc::Global;
 use std::cell::Cell;
 use std::io;
 use std::io::{Read, Write};
-use std::test::Fail;
 
 /// A reader that gives at most so many bytes a call. Behind so many calls one fails, and those after it go on.
 #[derive(Drop)]
