@@ -1,5 +1,6 @@
 pub mod BehindLemmas
 pub mod BranchLemmas
+pub mod CoverLemmas
 pub mod TargetLemmas
 pub mod LikeLemmas
 pub mod RuleLemmas
