@@ -1,5 +1,5 @@
 -- The rules of some statements, with those of one statement more.
-use Rattle.std.proofs.Common.{◌≡◌, ℕ, ◌+◌, ◌<◌, List, [], ◌∷◌, ◌++◌, length, map, sym, ◌∙◌, ap, subst, inl, inr, append-nil, arith}
+use Rattle.std.proofs.Common.{◌≡◌, ◌⊎◌, ℕ, ◌+◌, ◌<◌, List, [], ◌∷◌, ◌++◌, length, map, sym, ◌∙◌, ap, subst, inl, inr, append-nil, arith}
 use Rattle.std.specs.Prelude.{Contains}
 use Rattle.std.specs.declared.cmp.Ordering.{Ordering}
 use Rattle.std.specs.declared.cmp.Ordering.TheVariants.{Less}
@@ -84,6 +84,9 @@ module _ {K : Type 0} (asked : Item → K → Type 0) (gives : K → Rule → Ty
     only = λ r c. absurd (contains_none r c);
   }
 
+  pub all_rules : (n m : ℕ) (rules same : List NamedRule) → n ≡ m → same ≡ rules → AreRulesOf asked gives named at n rules → AreRulesOf asked gives named at m same
+  all_rules n m rules same e f are = subst (λ k. AreRulesOf asked gives named at k same) e (subst (AreRulesOf asked gives named at n) (sym f) are)
+
   module _ (n : ℕ) (old new : List NamedRule) (so_far : AreRulesOf asked gives named at n old) (one : AreBehind asked gives named (at n) n old new) where
     -- its rules are those of the statement at the place behind
     there_rule : (k : K) → asked (at n) k → (r : NamedRule) × Contains one.rules r × gives k (named r)
@@ -96,7 +99,7 @@ module _ {K : Type 0} (asked : Item → K → Type 0) (gives : K → Rule → Ty
     case_there r c =
         let (x, k, cx, a, g) = one.are.only (named r) (contains_map named one.rules r c) in
         elim (contains_cases x (at n) [] cx) [
-          | inl e ↦ (k, subst (λ z. asked z k) e a, g)
+          | inl e ↦ (k, subst (λ z. asked z k) (sym e) a, g)
           | inr m ↦ absurd (contains_none x m)
         ]
 
@@ -139,8 +142,8 @@ module _ {K : Type 0} (asked : Item → K → Type 0) (gives : K → Rule → Ty
   case_of : (y : Rule) → Contains (map named rules) y → (x : Item) × (k : K) × Contains (items_in i) x × asked x k × gives k y
   case_of y c =
       let (r, cr, e) = from_map named rules y c in
-      let (below, k, a, g) = are.only r cr in
-      (item_at i r.instance, k, get_contains (items_in i) r.instance (item_at i r.instance) (item_there i r.instance below), a, subst (gives k) e g)
+      let (below, case) = are.only r cr in
+      (item_at i r.instance, case.0, get_contains (items_in i) r.instance (item_at i r.instance) (item_there i r.instance below), case.1, subst (gives case.0) e case.2)
 
   pub are_records : AreRecordsOf asked gives (items_in i) (map named rules)
   are_records = record { each = record_of; only = case_of }

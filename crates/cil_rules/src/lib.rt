@@ -1,6 +1,6 @@
 //! The rules of a policy, and which permissions they cover.
 //!
-//! Start at `rules` in `rules.rt`, and at `covers` in `cover.rt`. `specs/Covered.antt` says which rules of a policy cover a permission,
+//! Start at `rules` in `gather.rt`, and at `covers` in `cover.rt`. `specs/Covered.antt` says which rules of a policy cover a permission,
 //! `specs/Rule.antt` what a rule is in numbers, `specs/Records.antt` which rule a statement has, `specs/Covers.antt` what a rule covers, and
 //! `specs/Order.antt` in which order rules of a table stand. `specs/Kept.antt` says how they are handed on, by declared names, and
 //! `specs/Listed.antt` in which order. That both say the same of whole tables is said a crate above.
@@ -8,12 +8,12 @@
 
 mod branch_number;
 mod cover;
+mod gather;
 mod rule;
-mod rules;
 mod sides;
 mod statement;
 
 pub use cover::covers;
-pub use rule::{NamedRule, Reach};
-pub use rules::{Rules, rules};
+pub use gather::rules;
+pub use rule::{NamedRule, Reach, Rules};
 pub use statement::push_rules;

@@ -1,6 +1,6 @@
 //! The rules of one statement. One of whose words stands for a list costs a step more for each part of what it says.
 
-ghost use Rattle.std.specs.Prelude.{◌≡◌, ◌<◌, ◌++◌, ◌∷◌, [], List, OnOk, length, map, true};
+ghost use Rattle.std.specs.Prelude.{◌≡◌, ◌<◌, ◌++◌, ◌∷◌, [], List, OnOk, false, length, map, true};
 ghost use Rattle.std.specs.List.Sorted.{IsStrictlySortedBy};
 ghost use Rattle.cil_conditions.specs.declared.branch.Branch.{Branch as ABranch};
 ghost use Rattle.cil_syntax.specs.declared.kind.Kind.TheVariants as variants;

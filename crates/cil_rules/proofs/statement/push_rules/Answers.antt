@@ -3,7 +3,6 @@ use Rattle.std.proofs.lemmas.Bool.{true≢false}
 use Rattle.cil_macros.specs.Items.{item_at, says_as_written, word_at}
 use Rattle.cil_macros.specs.ListTerms.{all_spotless}
 use Rattle.cil_macros.proofs.ItemsThere.{keyword_there}
-use Rattle.cil_names.specs.Known.{enabled_in}
 use Rattle.cil_classes.proofs.AlikeLemmas.{itself_there}
 use Rattle.cil_rules.proofs.BehindLemmas.{none_behind}
 use Rattle.cil_rules.proofs.RuleLemmas.{left_out, other_keyword}

@@ -4,10 +4,9 @@
 
 ghost use Rattle.std.specs.Prelude.{◌≡◌, ◌<◌, IfOk, OnOk, length, map, false, true};
 ghost use Rattle.std.specs.List.Sorted.{IsStrictlySortedBy};
-ghost use Rattle.cil_blocks.specs.Namespaces.{IsNumber};
 ghost use Rattle.cil_conditions.specs.Numbered.{AreBranchesOf};
 ghost use Rattle.cil_syntax.specs.declared.kind.Kind.TheVariants as variants;
-ghost use Rattle.cil_macros.specs.Items.{item_at, items_in, namespaces_in, says_as_written};
+ghost use Rattle.cil_macros.specs.Items.{item_at, items_in, says_as_written};
 ghost use Rattle.cil_names.specs.Known.{enabled_in, row_in};
 ghost use Rattle.cil_names.specs.Resolves.{is_mapping};
 ghost use Rattle.cil_names.specs.Rows.{IsTableOf};
@@ -16,11 +15,11 @@ ghost use Rattle.cil_classes.specs.Row.{AreOrderlyRows};
 ghost use Rattle.cil_rules.specs.Behind.{AreBehind};
 ghost use Rattle.cil_rules.specs.ForNames.{ForNames};
 ghost use Rattle.cil_rules.specs.Kept.{rule_named};
-ghost use Rattle.cil_rules.specs.Listed.{AreRulesOf, rule_at};
+ghost use Rattle.cil_rules.specs.Listed.{AreRulesOf};
 ghost use Rattle.cil_rules.specs.Records.{CaseBy, IsRuleOf, spelled};
 
 use crate::branch_number::branch_number;
-use crate::rule::NamedRule;
+use crate::rule::{NamedRule, Rules};
 use crate::statement::push_rules;
 use cil_base::NoMemory;
 use cil_classes::{Class, ClassId, GivenPermissions};
@@ -28,67 +27,8 @@ use cil_conditions::Branches;
 use cil_macros::Instances;
 use cil_names::{Known, Meaning, same_keyword};
 use cil_sets::Numbers;
-use cil_syntax::{Keyword, Spot};
+use cil_syntax::Keyword;
 use std::alloc::Global;
-use std::marker::Model;
-
-/// The rules of the statements with one first word, by rising place of their statement, and those of one statement by rising class.
-/// Contracts see them as their list.
-#[derive(Debug, Drop)]
-pub struct Rules {
-    rules: Vec<NamedRule>,
-}
-
-impl Model for Rules {
-    ghost use Rattle.std.specs.Prelude.{List};
-    ghost use Rattle.cil_rules.specs.declared.rule.NamedRule.{NamedRule};
-
-    ghost Value = { List NamedRule };
-
-    ghost view = { λ a. a.rules.items };
-}
-
-impl Rules {
-    /// These rules.
-    pub fn of(rules: Vec<NamedRule>) -> Rules
-        ensures { result ≡ rules.items }
-    {
-        Rules { rules }
-    }
-
-    /// All rules, in order.
-    pub fn as_slice(&self) -> &[NamedRule]
-        ensures { result.now ≡ self.now }
-    {
-        self.rules.as_slice()
-    }
-
-    /// All rules, in order, as a list.
-    pub fn into_list(self) -> Vec<NamedRule>
-        ensures { result.items ≡ self.entry }
-    {
-        self.rules
-    }
-
-    /// Where the statement of a rule is written: the number of its module, and its place in it.
-    pub fn at(&self, instances: &Instances, number: usize) -> Spot
-        requires number { number < length self.now }
-        requires within { (rule_at self.now number).instance < length (items_in instances.now) }
-        ensures { result ≡ (item_at instances.now (rule_at self.now number).instance).at }
-    {
-        instances
-            .statement_there(self.rules[number].instance as usize)
-            .at
-    }
-
-    /// The number of the namespace in which the statement of a rule is placed.
-    pub fn space(&self, instances: &Instances, number: usize) -> usize
-        requires { number < length self.now }
-        ensures { IsNumber (namespaces_in instances.now) (item_at instances.now (rule_at self.now number).instance).space result }
-    {
-        instances.space(self.rules[number].instance as usize)
-    }
-}
 
 /// The rules of the enabled statements with this first word, where the words of each declared name stand for these types, and the branches of
 /// conditions are these: one for each class of which a statement gives permissions. What covers nothing has no rule: a statement whose

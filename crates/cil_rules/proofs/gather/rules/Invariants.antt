@@ -10,7 +10,7 @@ use Rattle.cil_classes.specs.ClassRows.{AreClasses}
 use Rattle.cil_classes.specs.Held.{IsAssigned}
 use Rattle.cil_names.specs.Numbers.{AreApart}
 use Rattle.cil_names.specs.Known.{AreStanding, IsKnown, enabled_in}
-use Rattle.cil_rules.proofs.rules.rules.Given as goal
+use Rattle.cil_rules.proofs.gather.rules.Given as goal
 
 abbrev pub invariant-loop-at : goal.invariant-loop-at
 invariant-loop-at l = (names : Kind → List (List ℕ)) → IsKnown l.known (items_in l.instances) names → AreApart l.known.lookup.names.now (enabled_in l.known) l.known.numbers.now

@@ -1,15 +1,12 @@
 use Rattle.std.specs.Prelude.{option_map}
-use Rattle.std.proofs.Common.{◌≡◌, ◌<◌, ◌≤◌, ◌∙◌, ap, length, map, subst, sym, arith}
+use Rattle.std.proofs.Common.{◌≡◌, ◌<◌, ◌∙◌, ap, length, map, subst, sym, arith}
 use Rattle.std.proofs.lemmas.Option.{slice_get-map}
 use Rattle.cil_macros.specs.Items.{item_at, items_in}
 use Rattle.cil_macros.proofs.ItemLemmas.{item_there}
-use Rattle.cil_syntax.specs.declared.kind.Kind.TheVariants as kinds
-use Rattle.cil_names.specs.Known.{enabled_in, row_in}
+use Rattle.cil_names.specs.Known.{row_in}
 use Rattle.cil_rules.specs.Listed.{AreRulesOf}
-use Rattle.cil_rules.specs.Records.{CaseBy, IsRuleOf, spelled}
-use Rattle.cil_rules.specs.Kept.{rule_named}
-use Rattle.cil_rules.proofs.BehindLemmas.{more_rules, no_rules}
-use Rattle.cil_rules.proofs.rules.rules.Goals as goal
+use Rattle.cil_rules.proofs.BehindLemmas.{all_rules, more_rules, no_rules}
+use Rattle.cil_rules.proofs.gather.rules.Goals as goal
 
 pub loop-at-init : goal.loop-at-init
 loop-at-init c = λ names known apart standing classes given branches. subst (AreRulesOf _ _ _ _ 0) (sym c.in_ok-rules.ensures.items) (no_rules _ _ _ _)
@@ -28,4 +25,4 @@ pub returns : goal.returns
 returns c = λ names known apart standing classes given branches.
     let n = c.len-at-end.ensures.items in
     let all : c.loop-at.at ≡ length (items_in c.args.instances.now) = let f = c.loop-at-test.false in omega (arith, f, n) in
-    subst (λ m. AreRulesOf _ _ _ _ m c.loop-at.rules.items) all (c.loop-at.invariant names known apart standing classes given branches)
+    all_rules _ _ _ _ _ _ _ _ all c.of.ensures (c.loop-at.invariant names known apart standing classes given branches)

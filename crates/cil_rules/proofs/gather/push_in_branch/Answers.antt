@@ -8,7 +8,7 @@ use Rattle.cil_rules.proofs.BehindLemmas.{none_behind}
 use Rattle.cil_rules.proofs.BranchLemmas.{put_is_said}
 use Rattle.cil_rules.proofs.RuleLemmas.{not_taken, other_keyword}
 use Rattle.cil_rules.specs.Records.{spelled}
-use Rattle.cil_rules.proofs.rules.push_in_branch.Goals as goal
+use Rattle.cil_rules.proofs.gather.push_in_branch.Goals as goal
 
 pub returns-then-not-same_keyword : goal.returns-then-not-same_keyword
 returns-then-not-same_keyword c = λ names known apart standing classes given branches row.
