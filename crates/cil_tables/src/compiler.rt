@@ -25,7 +25,7 @@ ghost use Rattle.cil_tables.specs.Standings.{AllStand};
 ghost use Rattle.cil_tables.specs.Table.{most_booleans};
 
 use crate::both::{Both, together};
-use crate::filled::{filled, tables_from};
+use crate::filled::{fill_sections, tables_from};
 use crate::limit::check_booleans;
 use crate::standings::{Standings, standings_of};
 use crate::tables::Tables;
@@ -232,7 +232,7 @@ fn tables_of(
         second: _,
     } = others;
     let rows = classes.rows.as_slice();
-    let filled = filled(alloc, instances, &known, &numbering.sections, &stand, rows)?;
+    let filled = fill_sections(alloc, instances, &known, &numbering.sections, &stand, rows)?;
     Ok(tables_from(numbering, classes, filled))
 }
 

@@ -39,7 +39,7 @@ pub struct Filled {
 /// What the enabled statements give, where these are the sections of names and of classes, and words stand for these numbers.
 ///
 /// Errors: the faults of rules that the policy forbids itself, or out of memory.
-pub(crate) fn filled(
+pub(crate) fn fill_sections(
     alloc: Global,
     instances: &Instances,
     known: &Known,

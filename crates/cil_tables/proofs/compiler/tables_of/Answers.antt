@@ -1,4 +1,4 @@
-use Rattle.std.proofs.Common.{◌≡◌, List, ap, arith, inl, inr, length, refl, subst, sym, ◌∙◌}
+use Rattle.std.proofs.Common.{List, ap, arith, inl, inr, length, refl, subst, sym}
 use Rattle.std.proofs.lemmas.List.{length-map}
 use Rattle.std.specs.List.Sorted.{IsStrictlySortedBy}
 use Rattle.cil_base.specs.Lists.{text_cmp}
@@ -9,7 +9,6 @@ use Rattle.cil_names.specs.Numbers.{AreApart, AreNumbers, names_of}
 use Rattle.cil_classes.specs.declared.row.Class.{Class}
 use Rattle.cil_tables.specs.Compiled.{AreRules, IsTable}
 use Rattle.cil_tables.specs.declared.tables.Boolean.{Boolean}
-use Rattle.cil_tables.specs.Table.{boolean_names}
 use Rattle.cil_classes.specs.ClassRows.{AreClasses}
 use Rattle.cil_classes.specs.Row.{AreOrderlyRows}
 use Rattle.cil_names.specs.Known.{AreKnown}
@@ -45,17 +44,17 @@ judged_sets-requires-clause-numbers c = c.as_slice.ensures.value
 pub judged_sets-requires-clause-apart : goal.judged_sets-requires-clause-apart
 judged_sets-requires-clause-apart c = subst (AreApart c.args.lookup.now.names.now (is_in c.args.lookup.now.enabled.now)) (sym c.as_slice.ensures.value) (c.in_ok-numbering.ensures.apart c.requires.plain)
 
-pub filled-requires-clause-namespaces : goal.filled-requires-clause-namespaces
-filled-requires-clause-namespaces c = c.requires.namespaces
+pub fill_sections-requires-clause-namespaces : goal.fill_sections-requires-clause-namespaces
+fill_sections-requires-clause-namespaces c = c.requires.namespaces
 
-pub filled-requires-clause-ordered : goal.filled-requires-clause-ordered
-filled-requires-clause-ordered c = c.requires.entries.ordered
+pub fill_sections-requires-clause-ordered : goal.fill_sections-requires-clause-ordered
+fill_sections-requires-clause-ordered c = c.requires.entries.ordered
 
-pub filled-requires-clause-table : goal.filled-requires-clause-table
-filled-requires-clause-table c = c.requires.table
+pub fill_sections-requires-clause-table : goal.fill_sections-requires-clause-table
+fill_sections-requires-clause-table c = c.requires.table
 
-pub filled-requires-clause-known : goal.filled-requires-clause-known
-filled-requires-clause-known c =
+pub fill_sections-requires-clause-known : goal.fill_sections-requires-clause-known
+fill_sections-requires-clause-known c =
     let known : AreKnown c.args.lookup.now.namespaces.now (items_in c.args.instances.now) c.args.lookup.now.names.now (is_in c.args.lookup.now.enabled.now) (names_of c.in_ok-numbering.numbering.sections) c.as_slice.result.now c.args.permissions.now =
     record {
       namespaces = c.are_namespaces.ensures;
@@ -65,19 +64,19 @@ filled-requires-clause-known c =
     } in
     known
 
-pub filled-requires-clause-apart : goal.filled-requires-clause-apart
-filled-requires-clause-apart c = subst (AreApart c.args.lookup.now.names.now (is_in c.args.lookup.now.enabled.now)) (sym c.as_slice.ensures.value) (c.in_ok-numbering.ensures.apart c.requires.plain)
+pub fill_sections-requires-clause-apart : goal.fill_sections-requires-clause-apart
+fill_sections-requires-clause-apart c = subst (AreApart c.args.lookup.now.names.now (is_in c.args.lookup.now.enabled.now)) (sym c.as_slice.ensures.value) (c.in_ok-numbering.ensures.apart c.requires.plain)
 
-pub filled-requires-clause-stand : goal.filled-requires-clause-stand
-filled-requires-clause-stand c = c.in_ok-judged.ensures.0.1.0
+pub fill_sections-requires-clause-stand : goal.fill_sections-requires-clause-stand
+fill_sections-requires-clause-stand c = c.in_ok-judged.ensures.0.1.0
 
-pub filled-requires-clause-classes : goal.filled-requires-clause-classes
-filled-requires-clause-classes c =
+pub fill_sections-requires-clause-classes : goal.fill_sections-requires-clause-classes
+fill_sections-requires-clause-classes c =
     subst (AreClasses (items_in c.args.instances.now) (is_in c.args.lookup.now.enabled.now) c.in_ok-numbering.numbering.sections.classes.items) (sym c.as_slice-rows.ensures.value)
     (classes_are c.args.lookup.now.namespaces.now (items_in c.args.instances.now) c.args.lookup.now.names.now c.requires.entries (is_in c.args.lookup.now.enabled.now) c.in_ok-numbering.numbering.sections c.in_ok-numbering.numbering.numbers.items c.in_ok-numbering.ensures.numbers (c.in_ok-numbering.ensures.apart c.requires.plain) c.args.permissions.now c.requires.permissions c.in_ok-judged.judged.first.rows.items c.in_ok-judged.ensures.0.0)
 
-pub filled-requires-clause-rows : goal.filled-requires-clause-rows
-filled-requires-clause-rows c = subst AreOrderlyRows (sym c.as_slice-rows.ensures.value)
+pub fill_sections-requires-clause-rows : goal.fill_sections-requires-clause-rows
+fill_sections-requires-clause-rows c = subst AreOrderlyRows (sym c.as_slice-rows.ensures.value)
     (rows_orderly c.args.lookup.now.namespaces.now (items_in c.args.instances.now) c.args.lookup.now.names.now c.requires.entries (is_in c.args.lookup.now.enabled.now) c.in_ok-numbering.numbering.sections c.in_ok-numbering.numbering.numbers.items c.in_ok-numbering.ensures.numbers (c.in_ok-numbering.ensures.apart c.requires.plain) c.args.permissions.now c.requires.permissions c.in_ok-judged.judged.first.rows.items c.in_ok-judged.ensures.0.0 (λ f e. c.in_ok-judged.ensures.1 f (inl e)))
 
 pub tables_from-requires : goal.tables_from-requires

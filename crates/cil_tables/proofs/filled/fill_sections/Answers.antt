@@ -1,7 +1,7 @@
 use Rattle.std.proofs.Common.{sym, ◌∙◌}
 use Rattle.cil_faults.proofs.RefusalLemmas.{refused}
 use Rattle.cil_names.specs.Numbers.{names_of}
-use Rattle.cil_tables.proofs.filled.filled.Goals as goal
+use Rattle.cil_tables.proofs.filled.fill_sections.Goals as goal
 
 pub given_permissions-requires-clause-known : goal.given_permissions-requires-clause-known
 given_permissions-requires-clause-known c = (names_of c.args.names.now, c.requires.known, c.requires.classes)
