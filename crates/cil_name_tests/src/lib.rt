@@ -17,6 +17,8 @@ mod look_up_rows;
 #[cfg(test)]
 mod look_ups;
 #[cfg(test)]
+mod made_names;
+#[cfg(test)]
 mod optional_choices;
 #[cfg(test)]
 mod optional_rows;

@@ -4,8 +4,9 @@ ghost use Rattle.std.specs.Prelude.{IfSome};
 ghost use Rattle.cil_names.specs.Entries.{AreOrdered};
 
 use crate::look_up_rows::{Ask, Declared, Found, Row, SPACES, Space, TABLES};
+use crate::made_names::{are_numbers, names_with};
 use cil_blocks::{Namespaces, ScopeList};
-use cil_names::{Entry, Names, OptSet, are_numbers};
+use cil_names::{Entry, Names, OptSet};
 use cil_syntax::{Excerpt, Kind, Sign, Spot, Word};
 use std::alloc::Global;
 use std::test::Fail;
@@ -55,7 +56,7 @@ fn names(alloc: Global, spaces: &Spaces, declared: &[Declared]) -> Option<Names<
     for one in declared {
         entries.push(entry(alloc, one)?).ok()?;
     }
-    match Names::checked(alloc, spaces, entries) {
+    match names_with(alloc, spaces, entries) {
         Ok(found) => found,
         Err(_) => None,
     }

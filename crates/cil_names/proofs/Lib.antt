@@ -31,7 +31,6 @@ pub mod PermissionWordLemmas
 pub mod Qualified
 pub mod ReadingLemmas
 pub mod ResolvesLemmas
-pub mod RisingLemmas
 pub mod RoundLemmas
 pub mod RowLemmas
 pub mod ScopeLemmas
@@ -39,7 +38,6 @@ pub mod SharedLemmas
 pub mod SoleLemmas
 pub mod SpelledLemmas
 pub mod UnresolvedLemmas
-pub mod UpToLemmas
 pub mod WordedLemmas
 pub mod WrittenPartLemmas
 pub mod StandLemmas

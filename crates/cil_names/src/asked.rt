@@ -30,14 +30,25 @@ pub fn word_asked<'a>(
     ensures { IfOk result (λ word. MatchOption word (told_at (item_at instances.now at) number ≡ None)
         (λ w. told_at (item_at instances.now at) number ≡ Some (scoped_by (all_placed instances.now) w))) }
 {
-    let statement = instances.statement_there(at);
+    let asked = asked_at(alloc, instances, at)?;
+    Ok(told_of(asked.as_slice(), number))
+}
+
+/// What the statement at a place asks for, in order.
+pub fn asked_at<'a>(
+    alloc: Global,
+    instances: &Instances<'_, '_, 'a>,
+    at: usize,
+) -> Result<Vec<Asked<'a>>, NoMemory>
+    requires { at < length (items_in instances.now) }
+    ensures { IfOk result (λ asked. flat_map (wanted_by (all_placed instances.now)) asked.items ≡ words_of (item_at instances.now at)) }
+{
     let reading = Reading {
         instances,
         at,
-        statement,
+        statement: instances.statement_there(at),
     };
-    let asked = reading.asked(alloc)?;
-    Ok(told_of(asked.as_slice(), number))
+    reading.asked(alloc)
 }
 
 /// The word that is told of what some things ask for, by its number.

@@ -51,7 +51,7 @@ pub use guesses::{Guesses, hash_of};
 pub use known::{Known, meaning_at, same_keyword, same_kind};
 pub use meaning::Meaning;
 pub use meanings_behind::{behind, behind_first, behind_word};
-pub use names::{Names, are_numbers};
+pub use names::Names;
 pub use numbers::{Numbering, Sections, numbered};
 pub use opt_set::{OptSet, is_set};
 pub use permission_word::{

@@ -1,12 +1,11 @@
 //! The declared names of a policy, and what words name.
 
-ghost use Rattle.std.specs.Prelude.{◌≡◌, ◌↔◌, ◌≤◌, ◌<◌, ◌++◌, ◌∷◌, [], ℕ, All, Contains, IfOk, IfSome, IsTrue, List, MatchOption, OnOk, Some, find, length, slice_get};
+ghost use Rattle.std.specs.Prelude.{◌≡◌, ◌≤◌, ◌<◌, ◌++◌, ◌∷◌, [], All, Contains, IfOk, IfSome, List, MatchOption, OnOk, find, length};
 ghost use Rattle.std.specs.Global.{Vec as Vector};
 ghost use Rattle.std.specs.List.Sorted.{IsStrictlySortedBy};
 ghost use Rattle.std.specs.Ordering.{on};
 ghost use Rattle.cil_base.specs.Lists.{text_cmp};
 ghost use Rattle.cil_base.specs.declared.bytes.Bytes.{Bytes as Text};
-ghost use Rattle.cil_names.specs.declared.entry.Entry.{Entry};
 ghost use Rattle.cil_names.specs.Entries.{AreEntries, AreOrdered, HasNoEntryIn, IsAnswer, IsEntryIn, candidates_of, is_declared_at, is_in, by_name_cmp, key_of, listed, scoped};
 ghost use Rattle.cil_macros.specs.Item.{Item, OptSet as OptionalSet};
 ghost use Rattle.cil_syntax.specs.Scopes.{EndsGlobally, Scope};
@@ -65,24 +64,6 @@ impl<'a> Names<'a> {
     {
         let guesses = Guesses::of(alloc, entries.as_slice())?;
         Ok(Names { entries, guesses })
-    }
-
-    /// These entries; none where they do not rise, or one is in none of the namespaces. Error: out of memory.
-    pub fn checked(
-        alloc: Global,
-        namespaces: &Namespaces,
-        entries: Vec<Entry<'a>>,
-    ) -> Result<Option<Names<'a>>, NoMemory>
-        ensures { IfOk result (λ made. MatchOption made (AreOrdered namespaces.now entries.entry.items → ⊥)
-            (λ names. (names ≡ entries.entry.items) × AreOrdered namespaces.now names)) }
-    {
-        if !rise(entries.as_slice()) {
-            return Ok(None);
-        }
-        if !are_within(namespaces, entries.as_slice()) {
-            return Ok(None);
-        }
-        Ok(Some(Names::of(alloc, entries)?))
     }
 
     /// The entries, in order.
@@ -237,44 +218,4 @@ impl<'a> Names<'a> {
             scope,
         )
     }
-}
-
-/// Whether entries rise by their names, name spaces and the numbers of their namespaces.
-fn rise(entries: &[Entry]) -> bool
-    ensures { IsTrue result ↔ IsStrictlySortedBy (on key_of by_name_cmp) entries.now }
-{
-    entries.is_sorted_by(|a, b| {
-        a.name
-            .as_slice()
-            .cmp(b.name.as_slice())
-            .then(a.kind.rank().cmp(&b.kind.rank()))
-            .then(a.space.cmp(&b.space))
-            .is_lt()
-    })
-}
-
-/// Whether each entry is in one of the namespaces.
-fn are_within(namespaces: &Namespaces, entries: &[Entry]) -> bool
-    ensures { IsTrue result ↔ ((i : ℕ) (e : Entry) → slice_get entries.now i ≡ Some e → e.space ≤ length namespaces.now) }
-{
-    let most = namespaces.len();
-    for entry in entries {
-        if entry.space > most {
-            return false;
-        }
-    }
-    true
-}
-
-/// Whether these are numbers of namespaces.
-pub fn are_numbers(namespaces: &Namespaces, numbers: &[usize]) -> bool
-    ensures { IsTrue result ↔ All (λ k. k ≤ length namespaces.now) numbers.now }
-{
-    let most = namespaces.len();
-    for number in numbers {
-        if *number > most {
-            return false;
-        }
-    }
-    true
 }

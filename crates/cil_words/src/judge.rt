@@ -1,6 +1,6 @@
 //! The words outside all optionals that name nothing, by the table of what all instances ask for.
 
-ghost use Rattle.std.specs.Prelude.{◌≡◌, ◌<◌, ◌++◌, ◌∷◌, [], IfOk, List, OnOk, get_or, length, map, true};
+ghost use Rattle.std.specs.Prelude.{◌≡◌, ◌<◌, ◌++◌, ◌∷◌, [], List, OnOk, get_or, length, map, true};
 ghost use Rattle.std.specs.List.{flat_map, list_all};
 ghost use Rattle.cil_faults.specs.Refusal.{Answers};
 ghost use Rattle.cil_faults.specs.Reported.{fault_at};
@@ -10,7 +10,7 @@ ghost use Rattle.cil_macros.specs.Items.{all_placed, item_at, items_in, namespac
 ghost use Rattle.cil_names.specs.Asked.{wanted_by};
 ghost use Rattle.cil_names.specs.Entries.{AreEntries, is_in};
 ghost use Rattle.cil_names.specs.Faults.{ResolveFault};
-ghost use Rattle.cil_names.specs.Resolves.{Permission as APermission, Word as AWord, resolves, words_of};
+ghost use Rattle.cil_names.specs.Resolves.{Permission as APermission, Word as AWord, resolves};
 ghost use Rattle.cil_names.specs.Unresolved.{fault_of_word, faults_in, faults_of_all, faults_of_wanted};
 ghost use Rattle.cil_names.specs.declared.entry.Entry.{Entry as AnEntry};
 ghost use Rattle.cil_syntax.specs.Scopes.{ScopedWord};
@@ -22,8 +22,7 @@ use crate::settled_rows::first_declared;
 use cil_base::NoMemory;
 use cil_blocks::spelled::spelled;
 use cil_macros::{Instances, PlacedWord};
-use cil_names::asked::Asked;
-use cil_names::reading::Reading;
+use cil_names::asked::{Asked, asked_at};
 use cil_names::{Names, OptSet, flags_of};
 use cil_syntax::{Failure, Fault, FaultCode, push_fault_in, refuse};
 use std::alloc::Global;
@@ -195,23 +194,6 @@ impl<'r> Judge<'r, '_, '_, '_> {
         }
         report(self.alloc, self.instances, faults, at, word)
     }
-}
-
-/// What the statement at a place asks for.
-fn asked_at<'a>(
-    alloc: Global,
-    instances: &Instances<'_, '_, 'a>,
-    at: usize,
-) -> Result<Vec<Asked<'a>>, NoMemory>
-    requires { at < length (items_in instances.now) }
-    ensures { IfOk result (λ asked. flat_map (wanted_by (all_placed instances.now)) asked.items ≡ words_of (item_at instances.now at)) }
-{
-    let reading = Reading {
-        instances,
-        at,
-        statement: instances.statement_there(at),
-    };
-    reading.asked(alloc)
 }
 
 /// Reports a word of the statement at a place.

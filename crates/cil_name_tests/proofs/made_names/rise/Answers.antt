@@ -5,8 +5,8 @@ use Rattle.std.proofs.lemmas.Fn.{always_returns_same}
 use Rattle.cil_names.specs.declared.entry.Entry.{Entry}
 use Rattle.cil_names.specs.Entries.{by_name_cmp, key_of}
 use Rattle.cil_names.proofs.OrderLemmas.{key_total}
-use Rattle.cil_names.proofs.RisingLemmas.{rises_where_sorted, sorted_where_rises}
-use Rattle.cil_names.proofs.names.rise.Goals as goal
+use Rattle.cil_name_tests.proofs.RisingLemmas.{rises_where_sorted, sorted_where_rises}
+use Rattle.cil_name_tests.proofs.made_names.rise.Goals as goal
 
 pub returns : goal.returns
 returns c =

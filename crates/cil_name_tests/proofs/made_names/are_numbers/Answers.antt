@@ -1,6 +1,6 @@
 use Rattle.std.proofs.Common.{arith}
-use Rattle.cil_names.proofs.UpToLemmas.{all_up_to, not_up_to, one_up_to}
-use Rattle.cil_names.proofs.names.are_numbers.Goals as goal
+use Rattle.cil_name_tests.proofs.UpToLemmas.{all_up_to, not_up_to, one_up_to}
+use Rattle.cil_name_tests.proofs.made_names.are_numbers.Goals as goal
 
 pub loop-number-init : goal.loop-number-init
 loop-number-init c = λ k d h. omega (arith, h)

@@ -1,5 +1,5 @@
-use Rattle.cil_names.proofs.UpToLemmas.{AreUpTo}
-use Rattle.cil_names.proofs.names.are_numbers.Given as goal
+use Rattle.cil_name_tests.proofs.UpToLemmas.{AreUpTo}
+use Rattle.cil_name_tests.proofs.made_names.are_numbers.Given as goal
 
 abbrev pub invariant-loop-number : goal.invariant-loop-number
 invariant-loop-number l = AreUpTo l.fn.numbers l.most l.number-index

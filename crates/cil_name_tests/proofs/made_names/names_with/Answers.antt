@@ -3,7 +3,7 @@ use Rattle.std.specs.List.Sorted.{IsStrictlySortedBy}
 use Rattle.std.specs.Ordering.{on}
 use Rattle.cil_base.specs.Places.{get_at, get_contains}
 use Rattle.cil_names.specs.Entries.{AreOrdered, by_name_cmp, key_of}
-use Rattle.cil_names.proofs.names.Names.checked.Goals as goal
+use Rattle.cil_name_tests.proofs.made_names.names_with.Goals as goal
 
 pub returns-then-not-rise : goal.returns-then-not-rise
 returns-then-not-rise c = λ ordered.
