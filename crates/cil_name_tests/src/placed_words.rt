@@ -7,8 +7,9 @@ ghost use Rattle.std.specs.Prelude.{◌<◌, length};
 
 use crate::answers::{ByNames, Named, NamedQuestion, is_answer, row_holds, text_of};
 use crate::look_ups::word;
+use crate::made_names::are_numbers;
 use cil_macros::Instances;
-use cil_names::{Meaning, OptSet, Words, are_numbers, word_asked};
+use cil_names::{Meaning, OptSet, Words, word_asked};
 use cil_syntax::Sign;
 use cil_words::{Asks, asks_of, judged, settled};
 use std::alloc::Global;
