@@ -16,7 +16,7 @@ use Rattle.cil_syntax.specs.Words.{reads, read_word, read_string}
 use Rattle.cil_syntax.specs.Heads.{begins_with, first_words, heads}
 use Rattle.cil_syntax.specs.Readings.{read_row, read_list, cell_of, cells_of}
 use Rattle.cil_syntax.specs.declared.kind.Nesting.TheVariants as nestings
-use Rattle.cil_syntax.specs.Table.{entry_of, rules, containers, types, classes, users, set_aside_words, later_words, left_out_words}
+use Rattle.cil_syntax.specs.Table.{entry_of, rules, containers, types, classes, levels, set_aside_words, later_words, left_out_words}
 use Rattle.cil_syntax.specs.Terms.{Term, Leaf, Name, Form, Terms, nil, cons}
 use Rattle.cil_syntax.specs.Standpoints.{all_faults, forked, found_behind, found_from, found_inside}
 use Rattle.cil_syntax.specs.Written.{Context, at_top, Verdict, Refused, Shaped, by_entry, inside_of, verdict_of}
@@ -79,7 +79,7 @@ macros : (read keywords.Macro (macro none) ≡ reads (cons (Name (spot 7) (codes
     × (read keywords.Macro (macro (next (parameter 10 (codes "type") (codes "x")) none))
     ≡ reads (cons (Name (spot 7) (codes "m")) (cons (Form (spot 9) ops.Parameters
     (cons (Form (spot 10) ops.Parameter (cons (Form (spot 11) ops.TypeKind nil) (cons (Name (spot 18) (codes "x")) nil))) nil)) nil)) [])
-    × (faults_of (read keywords.Macro (macro (next (parameter 10 (codes "category") (codes "x")) none))) ≡ fault causes.Unsupported 11 (codes "category") ∷ [])
+    × (faults_of (read keywords.Macro (macro (next (parameter 10 (codes "category") (codes "x")) none))) ≡ [])
     × (faults_of (read keywords.Macro (macro (next (parameter 10 (codes "type") (codes "x.y")) none))) ≡ fault causes.BadName 18 (codes "x.y") ∷ [])
     × (read keywords.Macro (macro (next (list 10 (next (word 11 (codes "type")) none)) none)) ≡ None)
     × (read keywords.Macro (macro (next (word 10 (codes "type")) (next (word 15 (codes "x")) none))) ≡ None)
@@ -169,7 +169,7 @@ a_type name = list 0 (next (word 1 (codes "type")) (next (word 6 name) none))
 declared_in_macro : (faults_by (verdict_of 7 in_macro (a_type (codes "x"))) ≡ fault causes.ParameterClash 6 (codes "x") ∷ [])
     × (faults_by (verdict_of 7 in_macro (a_type (codes "y"))) ≡ [])
     × (faults_by (verdict_of 7 at_top (a_type (codes "x"))) ≡ [])
-unfolding verdict_of cells_of cell_of read_row read_word read_string read_list heads first_words begins_with rules containers types classes users entry_of
+unfolding verdict_of cells_of cell_of read_row read_word read_string read_list heads first_words begins_with rules containers types classes levels entry_of
 declared_in_macro = (refl, refl, refl)
 
 -- ---- the first word
@@ -179,15 +179,15 @@ abbrev of_word : List ℕ → Node
 of_word first = list 0 (next (word 1 first) (next (string 30) none))
 
 -- `(filecon "a")` on top and in a macro, `(block "a")` on top, `(macro "a")` in a macro, `(optional "a")` in a macro, `(booleanif "a")`, and
--- `(constrain "a")`, which is not taken yet
+-- `(constrain "a")`
 by_first_word : (verdict_of 7 at_top (of_word (codes "filecon")) ≡ Shaped (record { keyword = keywords.SetAside; at = spot 0; args = nil }) [])
     × (verdict_of 7 in_macro (of_word (codes "filecon")) ≡ Refused (fault causes.BadPlace 0 (codes "filecon")))
     × (verdict_of 7 at_top (of_word (codes "block")) ≡ Refused (fault causes.BadShape 0 (codes "block")))
     × (verdict_of 7 in_macro (of_word (codes "macro")) ≡ Refused (fault causes.BadPlace 0 (codes "macro")))
     × (verdict_of 7 in_macro (of_word (codes "optional")) ≡ Refused (fault causes.BadShape 0 (codes "optional")))
     × (verdict_of 7 at_top (of_word (codes "booleanif")) ≡ Refused (fault causes.BadShape 0 (codes "booleanif")))
-    × (verdict_of 7 at_top (of_word (codes "constrain")) ≡ Refused (fault causes.Unsupported 0 (codes "constrain")))
-unfolding verdict_of cells_of cell_of read_row read_word read_string read_list heads first_words begins_with rules containers types classes users entry_of set_aside_words later_words left_out_words
+    × (verdict_of 7 at_top (of_word (codes "constrain")) ≡ Refused (fault causes.BadShape 0 (codes "constrain")))
+unfolding verdict_of cells_of cell_of read_row read_word read_string read_list heads first_words begins_with rules containers types classes levels entry_of set_aside_words later_words left_out_words
 by_first_word = (refl, refl, refl, refl, refl, refl, refl)
 
 -- ---- branches
@@ -211,5 +211,5 @@ in_branches : all_faults 7 (found_behind 7 (forked in_branch 2) (next (word 11 (
     (next (list 90 (next (word 91 (codes "false")) (next (of_word_at 97 (codes "allow")) (next (of_word_at 130 (codes "optional")) none)))) none)))))
     ≡ fault_in_k causes.Unsupported 30 (codes "typepermissive") ∷ fault_in_k causes.BadPlace 60 (codes "type")
     ∷ fault_in_k causes.BadShape 97 (codes "allow") ∷ fault_in_k causes.BadPlace 130 (codes "optional") ∷ []
-unfolding found_behind found_inside found_from verdict_of cells_of cell_of read_row read_word read_string read_list heads first_words begins_with rules containers types classes users entry_of set_aside_words later_words left_out_words
+unfolding found_behind found_inside found_from verdict_of cells_of cell_of read_row read_word read_string read_list heads first_words begins_with rules containers types classes levels entry_of set_aside_words later_words left_out_words
 in_branches = refl

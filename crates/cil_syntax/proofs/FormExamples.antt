@@ -10,7 +10,7 @@ use Rattle.cil_syntax.specs.Shapes.{Cell, Inner}
 use Rattle.cil_syntax.specs.Words.{read_string, read_word}
 use Rattle.cil_syntax.specs.Heads.{begins_with, first_words, heads}
 use Rattle.cil_syntax.specs.Readings.{cell_of, cells_of, read_list, read_row}
-use Rattle.cil_syntax.specs.Table.{entry_of, rules, containers, types, classes, users, later_words, set_aside_words, left_out_words}
+use Rattle.cil_syntax.specs.Table.{entry_of, rules, containers, types, classes, levels, later_words, set_aside_words, left_out_words}
 use Rattle.cil_syntax.specs.Terms.{spot_of}
 use Rattle.cil_syntax.specs.Written.{Verdict, Refused, Shaped, by_entry, verdict_of, at_top}
 
@@ -56,7 +56,7 @@ pub sets_1 : (found (list 0 (next (word 1 (codes "typeattributeset")) (next (wor
     × (found (list 0 (next (word 1 (codes "typeattributeset")) (next (word 18 (codes "x")) (next (list 20 (next (word 21 (codes "not")) (next (word 25 (codes "a")) none))) none)))) ≡ [])
     × (found (list 0 (next (word 1 (codes "typeattributeset")) (next (word 18 (codes "x")) (next (list 20 (next (word 21 (codes "and")) (next (word 25 (codes "a")) (next (list 27 (next (word 28 (codes "not")) (next (word 32 (codes "b")) none))) none)))) none)))) ≡ [])
     × (found (list 0 (next (word 1 (codes "typeattributeset")) (next (word 18 (codes "x")) (next (list 20 (next (word 21 (codes "or")) (next (word 24 (codes "a")) (next (word 26 (codes "b")) none)))) none)))) ≡ [])
-unfolding verdict_of cells_of cell_of read_row read_word read_string read_list rules containers types classes users entry_of set_aside_words later_words left_out_words heads first_words begins_with
+unfolding verdict_of cells_of cell_of read_row read_word read_string read_list rules containers types classes levels entry_of set_aside_words later_words left_out_words heads first_words begins_with
 sets_1 = (refl, refl, refl, refl, refl, refl, refl, refl)
 
 -- `(typeattributeset x (xor (a b) c))`
@@ -75,7 +75,7 @@ pub sets_2 : (found (list 0 (next (word 1 (codes "typeattributeset")) (next (wor
     × (found (list 0 (next (word 1 (codes "typeattributeset")) (next (word 18 (codes "x")) (next (list 20 (next (word 21 (codes "and")) (next (word 25 (codes "a")) none))) none)))) ≡ fault causes.BadShape 0 (codes "typeattributeset") ∷ [])
     × (found (list 0 (next (word 1 (codes "typeattributeset")) (next (word 18 (codes "x")) (next (list 20 (next (word 21 (codes "and")) (next (word 25 (codes "a")) (next (word 27 (codes "b")) (next (word 29 (codes "c")) none))))) none)))) ≡ fault causes.BadShape 0 (codes "typeattributeset") ∷ [])
     × (found (list 0 (next (word 1 (codes "typeattributeset")) (next (word 18 (codes "x")) (next (list 20 (next (word 21 (codes "a")) (next (word 23 (codes "and")) (next (word 27 (codes "b")) none)))) none)))) ≡ fault causes.ReservedName 23 (codes "and") ∷ [])
-unfolding verdict_of cells_of cell_of read_row read_word read_string read_list rules containers types classes users entry_of set_aside_words later_words left_out_words heads first_words begins_with
+unfolding verdict_of cells_of cell_of read_row read_word read_string read_list rules containers types classes levels entry_of set_aside_words later_words left_out_words heads first_words begins_with
 sets_2 = (refl, refl, refl, refl, refl, refl, refl, refl)
 
 -- `(typeattributeset x (range a b))`
@@ -94,7 +94,7 @@ pub sets_3 : (found (list 0 (next (word 1 (codes "typeattributeset")) (next (wor
     × (found (list 0 (next (word 1 (codes "roleattributeset")) (next (word 18 (codes "x")) (next (list 20 (next (word 21 (codes "and")) (next (word 25 (codes "r1")) (next (word 28 (codes "r")) none)))) none)))) ≡ fault causes.ReservedName 25 (codes "r1") ∷ [])
     × (found (list 0 (next (word 1 (codes "userattributeset")) (next (word 18 (codes "x")) (next (list 20 (next (word 21 (codes "not")) (next (word 25 (codes ".a")) none))) none)))) ≡ [])
     × (found_as keywords.CategorySet (list 0 (next (word 1 (codes "categoryset")) (next (word 13 (codes "c")) (next (list 15 (next (word 16 (codes "range")) (next (word 22 (codes "a")) (next (word 24 (codes "b")) none)))) none)))) ≡ [])
-unfolding verdict_of cells_of cell_of read_row read_word read_string read_list rules containers types classes users entry_of set_aside_words later_words left_out_words heads first_words begins_with
+unfolding verdict_of cells_of cell_of read_row read_word read_string read_list rules containers types classes levels entry_of set_aside_words later_words left_out_words heads first_words begins_with
 sets_3 = (refl, refl, refl, refl, refl, refl, refl, refl)
 
 -- `(categoryset c (range a))`
@@ -113,7 +113,7 @@ pub sets_4 : (found_as keywords.CategorySet (list 0 (next (word 1 (codes "catego
     × (found_as keywords.SensitivityCategory (list 0 (next (word 1 (codes "sensitivitycategory")) (next (word 21 (codes "s")) (next (word 23 (codes "all")) none)))) ≡ [])
     × (found (list 0 (next (word 1 (codes "allow")) (next (word 7 (codes "a")) (next (word 9 (codes "b")) (next (list 11 (next (word 12 (codes "file")) (next (list 17 (next (word 18 (codes "not")) (next (word 22 (codes "read")) none))) none))) none))))) ≡ [])
     × (found (list 0 (next (word 1 (codes "allow")) (next (word 7 (codes "a")) (next (word 9 (codes "b")) (next (list 11 (next (word 12 (codes "file")) (next (list 17 (next (word 18 (codes "all")) none)) none))) none))))) ≡ [])
-unfolding verdict_of cells_of cell_of read_row read_word read_string read_list rules containers types classes users entry_of set_aside_words later_words left_out_words heads first_words begins_with
+unfolding verdict_of cells_of cell_of read_row read_word read_string read_list rules containers types classes levels entry_of set_aside_words later_words left_out_words heads first_words begins_with
 sets_4 = (refl, refl, refl, refl, refl, refl, refl, refl)
 
 -- `(allow a b (file all))`
@@ -132,14 +132,14 @@ pub sets_5 : (found (list 0 (next (word 1 (codes "allow")) (next (word 7 (codes 
     × (found (list 0 (next (word 1 (codes "allow")) (next (word 7 (codes "a")) (next (word 9 (codes "b")) (next (word 11 (codes "perm")) none))))) ≡ [])
     × (found (list 0 (next (word 1 (codes "allow")) (next (word 7 (codes "a")) (next (word 9 (codes "b")) (next (word 11 (codes "1x")) none))))) ≡ fault causes.BadName 11 (codes "1x") ∷ [])
     × (found (list 0 (next (word 1 (codes "allow")) (next (word 7 (codes "a")) (next (word 9 (codes "b")) (next (word 11 (codes "all")) none))))) ≡ fault causes.ReservedName 11 (codes "all") ∷ [])
-unfolding verdict_of cells_of cell_of read_row read_word read_string read_list rules containers types classes users entry_of set_aside_words later_words left_out_words heads first_words begins_with
+unfolding verdict_of cells_of cell_of read_row read_word read_string read_list rules containers types classes levels entry_of set_aside_words later_words left_out_words heads first_words begins_with
 sets_5 = (refl, refl, refl, refl, refl, refl, refl, refl)
 
 -- `(allow a self p)`
 -- `(allow a notself p)`
 pub sets_6 : (found (list 0 (next (word 1 (codes "allow")) (next (word 7 (codes "a")) (next (word 9 (codes "self")) (next (word 14 (codes "p")) none))))) ≡ [])
     × (found (list 0 (next (word 1 (codes "allow")) (next (word 7 (codes "a")) (next (word 9 (codes "notself")) (next (word 17 (codes "p")) none))))) ≡ fault causes.Unsupported 9 (codes "notself") ∷ [])
-unfolding verdict_of cells_of cell_of read_row read_word read_string read_list rules containers types classes users entry_of set_aside_words later_words left_out_words heads first_words begins_with
+unfolding verdict_of cells_of cell_of read_row read_word read_string read_list rules containers types classes levels entry_of set_aside_words later_words left_out_words heads first_words begins_with
 sets_6 = (refl, refl)
 
 -- `(booleanif b (true))`
@@ -158,7 +158,7 @@ pub conditions_1 : (found (list 0 (next (word 1 (codes "booleanif")) (next (word
     × (found (list 0 (next (word 1 (codes "booleanif")) (next (list 11 (next (word 12 (codes "not")) (next (word 16 (codes "b")) none))) (next (list 19 (next (word 20 (codes "true")) none)) none)))) ≡ [])
     × (found (list 0 (next (word 1 (codes "booleanif")) (next (list 11 (next (word 12 (codes "and")) (next (word 16 (codes "a")) (next (list 18 (next (word 19 (codes "xor")) (next (word 23 (codes "b")) (next (list 25 (next (word 26 (codes "c")) none)) none)))) none)))) (next (list 31 (next (word 32 (codes "true")) none)) none)))) ≡ [])
     × (found (list 0 (next (word 1 (codes "booleanif")) (next (list 11 (next (word 12 (codes "eq")) (next (word 15 (codes "a")) (next (word 17 (codes "b")) none)))) (next (list 20 (next (word 21 (codes "true")) none)) none)))) ≡ [])
-unfolding verdict_of cells_of cell_of read_row read_word read_string read_list rules containers types classes users entry_of set_aside_words later_words left_out_words heads first_words begins_with
+unfolding verdict_of cells_of cell_of read_row read_word read_string read_list rules containers types classes levels entry_of set_aside_words later_words left_out_words heads first_words begins_with
 conditions_1 = (refl, refl, refl, refl, refl, refl, refl, refl)
 
 -- `(booleanif (neq (not a) b) (true))`
@@ -177,7 +177,7 @@ pub conditions_2 : (found (list 0 (next (word 1 (codes "booleanif")) (next (list
     × (found (list 0 (next (word 1 (codes "booleanif")) (next (list 11 (next (word 12 (codes "a")) (next (word 14 (codes "b")) none))) (next (list 17 (next (word 18 (codes "true")) none)) none)))) ≡ fault causes.BadShape 0 (codes "booleanif") ∷ [])
     × (found (list 0 (next (word 1 (codes "booleanif")) (next (list 11 none) (next (list 14 (next (word 15 (codes "true")) none)) none)))) ≡ fault causes.BadShape 0 (codes "booleanif") ∷ [])
     × (found (list 0 (next (word 1 (codes "booleanif")) (next (list 11 (next (word 12 (codes "true")) none)) (next (list 18 (next (word 19 (codes "true")) none)) none)))) ≡ fault causes.ReservedName 12 (codes "true") ∷ [])
-unfolding verdict_of cells_of cell_of read_row read_word read_string read_list rules containers types classes users entry_of set_aside_words later_words left_out_words heads first_words begins_with
+unfolding verdict_of cells_of cell_of read_row read_word read_string read_list rules containers types classes levels entry_of set_aside_words later_words left_out_words heads first_words begins_with
 conditions_2 = (refl, refl, refl, refl, refl, refl, refl, refl)
 
 -- `(booleanif (self) (true))`
@@ -196,7 +196,7 @@ pub conditions_3 : (found (list 0 (next (word 1 (codes "booleanif")) (next (list
     × (found (list 0 (next (word 1 (codes "booleanif")) (next (word 11 (codes "b")) (next (list 13 (next (word 14 (codes "false")) none)) (next (list 21 (next (word 22 (codes "false")) none)) none))))) ≡ fault causes.BadShape 0 (codes "booleanif") ∷ [])
     × (found (list 0 (next (word 1 (codes "booleanif")) (next (word 11 (codes "b")) (next (list 13 (next (word 14 (codes "true")) none)) (next (list 20 (next (word 21 (codes "false")) none)) (next (list 28 (next (word 29 (codes "true")) none)) none)))))) ≡ fault causes.BadShape 0 (codes "booleanif") ∷ [])
     × (found (list 0 (next (word 1 (codes "booleanif")) (next (word 11 (codes "b")) (next (list 13 (next (word 14 (codes "maybe")) none)) none)))) ≡ fault causes.BadShape 0 (codes "booleanif") ∷ [])
-unfolding verdict_of cells_of cell_of read_row read_word read_string read_list rules containers types classes users entry_of set_aside_words later_words left_out_words heads first_words begins_with
+unfolding verdict_of cells_of cell_of read_row read_word read_string read_list rules containers types classes levels entry_of set_aside_words later_words left_out_words heads first_words begins_with
 conditions_3 = (refl, refl, refl, refl, refl, refl, refl, refl)
 
 -- `(booleanif b ())`
@@ -215,7 +215,7 @@ pub conditions_4 : (found (list 0 (next (word 1 (codes "booleanif")) (next (word
     × (found (list 0 (next (word 1 (codes "booleanif")) (next (list 11 (next (word 12 (codes "dom")) (next (word 16 (codes "a")) (next (word 18 (codes "b")) none)))) (next (list 21 (next (word 22 (codes "true")) none)) none)))) ≡ fault causes.BadShape 0 (codes "booleanif") ∷ [])
     × (found (list 0 (next (word 1 (codes "boolean")) (next (word 9 (codes "b")) (next (word 11 (codes "true")) none)))) ≡ [])
     × (found (list 0 (next (word 1 (codes "boolean")) (next (word 9 (codes "b")) (next (word 11 (codes "false")) none)))) ≡ [])
-unfolding verdict_of cells_of cell_of read_row read_word read_string read_list rules containers types classes users entry_of set_aside_words later_words left_out_words heads first_words begins_with
+unfolding verdict_of cells_of cell_of read_row read_word read_string read_list rules containers types classes levels entry_of set_aside_words later_words left_out_words heads first_words begins_with
 conditions_4 = (refl, refl, refl, refl, refl, refl, refl, refl)
 
 -- `(boolean b yes)`
@@ -228,7 +228,7 @@ pub conditions_5 : (found (list 0 (next (word 1 (codes "boolean")) (next (word 9
     × (found (list 0 (next (word 1 (codes "boolean")) (next (word 9 (codes "true")) (next (word 14 (codes "false")) none)))) ≡ fault causes.ReservedName 9 (codes "true") ∷ [])
     × (found_as keywords.Mls (list 0 (next (word 1 (codes "mls")) (next (word 5 (codes "true")) none))) ≡ [])
     × (found_as keywords.Mls (list 0 (next (word 1 (codes "mls")) (next (word 5 (codes "maybe")) none))) ≡ fault causes.BadShape 0 (codes "mls") ∷ [])
-unfolding verdict_of cells_of cell_of read_row read_word read_string read_list rules containers types classes users entry_of set_aside_words later_words left_out_words heads first_words begins_with
+unfolding verdict_of cells_of cell_of read_row read_word read_string read_list rules containers types classes levels entry_of set_aside_words later_words left_out_words heads first_words begins_with
 conditions_5 = (refl, refl, refl, refl, refl)
 
 -- `(constrain (c (p)) (eq u1 u2))`
@@ -247,7 +247,7 @@ pub constraints_1 : (found_as keywords.Constrain (list 0 (next (word 1 (codes "c
     × (found_as keywords.Constrain (list 0 (next (word 1 (codes "constrain")) (next (list 11 (next (word 12 (codes "c")) (next (list 14 (next (word 15 (codes "p")) none)) none))) (next (list 19 (next (word 20 (codes "neq")) (next (word 24 (codes "r2")) (next (word 27 (codes "r")) none)))) none)))) ≡ [])
     × (found_as keywords.Constrain (list 0 (next (word 1 (codes "constrain")) (next (list 11 (next (word 12 (codes "c")) (next (list 14 (next (word 15 (codes "p")) none)) none))) (next (list 19 (next (word 20 (codes "eq")) (next (word 23 (codes "t2")) (next (list 26 (next (word 27 (codes "a")) none)) none)))) none)))) ≡ [])
     × (found_as keywords.Constrain (list 0 (next (word 1 (codes "constrain")) (next (list 11 (next (word 12 (codes "c")) (next (list 14 (next (word 15 (codes "p")) none)) none))) (next (list 19 (next (word 20 (codes "eq")) (next (word 23 (codes "t2")) (next (list 26 none) none)))) none)))) ≡ fault causes.BadShape 0 (codes "constrain") ∷ [])
-unfolding verdict_of cells_of cell_of read_row read_word read_string read_list rules containers types classes users entry_of set_aside_words later_words left_out_words heads first_words begins_with
+unfolding verdict_of cells_of cell_of read_row read_word read_string read_list rules containers types classes levels entry_of set_aside_words later_words left_out_words heads first_words begins_with
 constraints_1 = (refl, refl, refl, refl, refl, refl, refl, refl)
 
 -- `(constrain (c (p)) (eq u1 u1))`
@@ -266,7 +266,7 @@ pub constraints_2 : (found_as keywords.Constrain (list 0 (next (word 1 (codes "c
     × (found_as keywords.Constrain (list 0 (next (word 1 (codes "constrain")) (next (list 11 (next (word 12 (codes "c")) (next (list 14 (next (word 15 (codes "p")) none)) none))) (next (list 19 (next (word 20 (codes "eq")) (next (word 23 (codes "u2")) (next (word 26 (codes "u1")) none)))) none)))) ≡ fault causes.ReservedName 26 (codes "u1") ∷ [])
     × (found_as keywords.Constrain (list 0 (next (word 1 (codes "constrain")) (next (list 11 (next (word 12 (codes "c")) (next (list 14 (next (word 15 (codes "p")) none)) none))) (next (list 19 (next (word 20 (codes "eq")) (next (word 23 (codes "x")) (next (word 25 (codes "u1")) none)))) none)))) ≡ fault causes.BadShape 0 (codes "constrain") ∷ [])
     × (found_as keywords.Constrain (list 0 (next (word 1 (codes "constrain")) (next (list 11 (next (word 12 (codes "c")) (next (list 14 (next (word 15 (codes "p")) none)) none))) (next (list 19 (next (word 20 (codes "eq")) (next (word 23 (codes "u1")) none))) none)))) ≡ fault causes.BadShape 0 (codes "constrain") ∷ [])
-unfolding verdict_of cells_of cell_of read_row read_word read_string read_list rules containers types classes users entry_of set_aside_words later_words left_out_words heads first_words begins_with
+unfolding verdict_of cells_of cell_of read_row read_word read_string read_list rules containers types classes levels entry_of set_aside_words later_words left_out_words heads first_words begins_with
 constraints_2 = (refl, refl, refl, refl, refl, refl, refl, refl)
 
 -- `(constrain (c (p)) (eq))`
@@ -285,7 +285,7 @@ pub constraints_3 : (found_as keywords.Constrain (list 0 (next (word 1 (codes "c
     × (found_as keywords.Constrain (list 0 (next (word 1 (codes "constrain")) (next (list 11 (next (word 12 (codes "c")) (next (list 14 (next (word 15 (codes "p")) none)) none))) (next (list 19 (next (word 20 (codes "or")) (next (list 23 (next (word 24 (codes "eq")) (next (word 27 (codes "u1")) (next (word 30 (codes "u2")) none)))) none))) none)))) ≡ fault causes.BadShape 0 (codes "constrain") ∷ [])
     × (found_as keywords.Constrain (list 0 (next (word 1 (codes "constrain")) (next (list 11 (next (word 12 (codes "c")) (next (list 14 (next (word 15 (codes "p")) none)) none))) (next (list 19 (next (list 20 (next (word 21 (codes "eq")) (next (word 24 (codes "u1")) (next (word 27 (codes "u2")) none)))) none)) none)))) ≡ [])
     × (found_as keywords.Constrain (list 0 (next (word 1 (codes "constrain")) (next (list 11 (next (word 12 (codes "c")) (next (list 14 (next (word 15 (codes "p")) none)) none))) (next (list 19 (next (list 20 (next (list 21 (next (word 22 (codes "eq")) (next (word 25 (codes "u1")) (next (word 28 (codes "u2")) none)))) none)) none)) none)))) ≡ [])
-unfolding verdict_of cells_of cell_of read_row read_word read_string read_list rules containers types classes users entry_of set_aside_words later_words left_out_words heads first_words begins_with
+unfolding verdict_of cells_of cell_of read_row read_word read_string read_list rules containers types classes levels entry_of set_aside_words later_words left_out_words heads first_words begins_with
 constraints_3 = (refl, refl, refl, refl, refl, refl, refl, refl)
 
 -- `(constrain (c (p)) ())`
@@ -304,7 +304,7 @@ pub constraints_4 : (found_as keywords.Constrain (list 0 (next (word 1 (codes "c
     × (found_as keywords.Constrain (list 0 (next (word 1 (codes "constrain")) (next (list 11 (next (word 12 (codes "c")) (next (list 14 (next (word 15 (codes "p")) none)) none))) (next (list 19 (next (word 20 (codes "incomp")) (next (word 27 (codes "r1")) (next (word 30 (codes "r2")) none)))) none)))) ≡ fault causes.Unsupported 20 (codes "incomp") ∷ [])
     × (found_as keywords.Constrain (list 0 (next (word 1 (codes "constrain")) (next (list 11 (next (word 12 (codes "c")) (next (list 14 (next (word 15 (codes "p")) none)) none))) (next (list 19 (next (word 20 (codes "dom")) (next (word 24 (codes "r2")) (next (word 27 (codes "r1")) none)))) none)))) ≡ fault causes.BadShape 0 (codes "constrain") ∷ [])
     × (found_as keywords.Constrain (list 0 (next (word 1 (codes "constrain")) (next (list 11 (next (word 12 (codes "c")) (next (list 14 (next (word 15 (codes "p")) none)) none))) (next (list 19 (next (word 20 (codes "dom")) (next (word 24 (codes "r1")) (next (word 27 (codes "x")) none)))) none)))) ≡ fault causes.BadShape 0 (codes "constrain") ∷ [])
-unfolding verdict_of cells_of cell_of read_row read_word read_string read_list rules containers types classes users entry_of set_aside_words later_words left_out_words heads first_words begins_with
+unfolding verdict_of cells_of cell_of read_row read_word read_string read_list rules containers types classes levels entry_of set_aside_words later_words left_out_words heads first_words begins_with
 constraints_4 = (refl, refl, refl, refl, refl, refl, refl, refl)
 
 -- `(constrain (c (p)) (dom r1 r2 r2))`
@@ -323,7 +323,7 @@ pub constraints_5 : (found_as keywords.Constrain (list 0 (next (word 1 (codes "c
     × (found_as keywords.MlsConstrain (list 0 (next (word 1 (codes "mlsconstrain")) (next (list 14 (next (word 15 (codes "c")) (next (list 17 (next (word 18 (codes "p")) none)) none))) (next (list 22 (next (word 23 (codes "dom")) (next (word 27 (codes "l1")) (next (word 30 (codes "l2")) none)))) none)))) ≡ [])
     × (found_as keywords.MlsConstrain (list 0 (next (word 1 (codes "mlsconstrain")) (next (list 14 (next (word 15 (codes "c")) (next (list 17 (next (word 18 (codes "p")) none)) none))) (next (list 22 (next (word 23 (codes "domby")) (next (word 29 (codes "l1")) (next (word 32 (codes "h2")) none)))) none)))) ≡ [])
     × (found_as keywords.MlsConstrain (list 0 (next (word 1 (codes "mlsconstrain")) (next (list 14 (next (word 15 (codes "c")) (next (list 17 (next (word 18 (codes "p")) none)) none))) (next (list 22 (next (word 23 (codes "incomp")) (next (word 30 (codes "h1")) (next (word 33 (codes "l2")) none)))) none)))) ≡ [])
-unfolding verdict_of cells_of cell_of read_row read_word read_string read_list rules containers types classes users entry_of set_aside_words later_words left_out_words heads first_words begins_with
+unfolding verdict_of cells_of cell_of read_row read_word read_string read_list rules containers types classes levels entry_of set_aside_words later_words left_out_words heads first_words begins_with
 constraints_5 = (refl, refl, refl, refl, refl, refl, refl, refl)
 
 -- `(mlsconstrain (c (p)) (eq h1 h2))`
@@ -342,7 +342,7 @@ pub constraints_6 : (found_as keywords.MlsConstrain (list 0 (next (word 1 (codes
     × (found_as keywords.MlsConstrain (list 0 (next (word 1 (codes "mlsconstrain")) (next (list 14 (next (word 15 (codes "c")) (next (list 17 (next (word 18 (codes "p")) none)) none))) (next (list 22 (next (word 23 (codes "dom")) (next (word 27 (codes "l2")) (next (word 30 (codes "h1")) none)))) none)))) ≡ fault causes.BadShape 0 (codes "mlsconstrain") ∷ [])
     × (found_as keywords.MlsConstrain (list 0 (next (word 1 (codes "mlsconstrain")) (next (list 14 (next (word 15 (codes "c")) (next (list 17 (next (word 18 (codes "p")) none)) none))) (next (list 22 (next (word 23 (codes "dom")) (next (word 27 (codes "h1")) (next (word 30 (codes "l1")) none)))) none)))) ≡ fault causes.BadShape 0 (codes "mlsconstrain") ∷ [])
     × (found_as keywords.MlsConstrain (list 0 (next (word 1 (codes "mlsconstrain")) (next (list 14 (next (word 15 (codes "c")) (next (list 17 (next (word 18 (codes "p")) none)) none))) (next (list 22 (next (word 23 (codes "eq")) (next (word 26 (codes "l1")) (next (word 29 (codes "t2")) none)))) none)))) ≡ fault causes.BadShape 0 (codes "mlsconstrain") ∷ [])
-unfolding verdict_of cells_of cell_of read_row read_word read_string read_list rules containers types classes users entry_of set_aside_words later_words left_out_words heads first_words begins_with
+unfolding verdict_of cells_of cell_of read_row read_word read_string read_list rules containers types classes levels entry_of set_aside_words later_words left_out_words heads first_words begins_with
 constraints_6 = (refl, refl, refl, refl, refl, refl, refl, refl)
 
 -- `(mlsconstrain (c (p)) (eq l1 x))`
@@ -357,7 +357,7 @@ pub constraints_7 : (found_as keywords.MlsConstrain (list 0 (next (word 1 (codes
     × (found_as keywords.MlsConstrain (list 0 (next (word 1 (codes "mlsconstrain")) (next (list 14 (next (word 15 (codes "c")) (next (list 17 (next (word 18 (codes "p")) none)) none))) (next (list 22 (next (word 23 (codes "or")) (next (list 26 (next (word 27 (codes "eq")) (next (word 30 (codes "t1")) (next (word 33 (codes "x")) none)))) (next (list 36 (next (word 37 (codes "and")) (next (list 41 (next (word 42 (codes "dom")) (next (word 46 (codes "l1")) (next (word 49 (codes "l2")) none)))) (next (list 53 (next (word 54 (codes "domby")) (next (word 60 (codes "h1")) (next (word 63 (codes "h2")) none)))) none)))) none)))) none)))) ≡ [])
     × (found_as keywords.MlsConstrain (list 0 (next (word 1 (codes "mlsconstrain")) (next (list 14 (next (word 15 (codes "c")) (next (list 17 (next (word 18 (codes "p")) none)) none))) (next (list 22 (next (word 23 (codes "eq")) (next (word 26 (codes "t1")) (next (word 29 (codes "t2")) none)))) none)))) ≡ [])
     × (found_as keywords.MlsConstrain (list 0 (next (word 1 (codes "mlsconstrain")) (next (list 14 (next (word 15 (codes "c")) (next (list 17 (next (word 18 (codes "p")) none)) none))) (next (list 22 (next (word 23 (codes "eq")) (next (word 26 (codes "u1")) (next (word 29 (codes "h1")) none)))) none)))) ≡ fault causes.ReservedName 29 (codes "h1") ∷ [])
-unfolding verdict_of cells_of cell_of read_row read_word read_string read_list rules containers types classes users entry_of set_aside_words later_words left_out_words heads first_words begins_with
+unfolding verdict_of cells_of cell_of read_row read_word read_string read_list rules containers types classes levels entry_of set_aside_words later_words left_out_words heads first_words begins_with
 constraints_7 = (refl, refl, refl, refl, refl, refl)
 
 -- `(common k (a b))`
@@ -376,7 +376,7 @@ pub statements_1 : (found (list 0 (next (word 1 (codes "common")) (next (word 8 
     × (found (list 0 (next (word 1 (codes "classcommon")) (next (word 13 (codes "c")) (next (word 15 (codes "k")) none)))) ≡ [])
     × (found (list 0 (next (word 1 (codes "classmapping")) (next (word 14 (codes "m")) (next (word 16 (codes "p")) (next (list 18 (next (word 19 (codes "c")) (next (list 21 (next (word 22 (codes "q")) none)) none))) none))))) ≡ [])
     × (found (list 0 (next (word 1 (codes "classmapping")) (next (word 14 (codes "m")) (next (word 16 (codes "p")) (next (word 18 (codes "cp")) none))))) ≡ [])
-unfolding verdict_of cells_of cell_of read_row read_word read_string read_list rules containers types classes users entry_of set_aside_words later_words left_out_words heads first_words begins_with
+unfolding verdict_of cells_of cell_of read_row read_word read_string read_list rules containers types classes levels entry_of set_aside_words later_words left_out_words heads first_words begins_with
 statements_1 = (refl, refl, refl, refl, refl, refl, refl, refl)
 
 -- `(classmapping m a.b (c (q)))`
@@ -395,7 +395,7 @@ pub statements_2 : (found (list 0 (next (word 1 (codes "classmapping")) (next (w
     × (found (list 0 (next (word 1 (codes "classorder")) (next (list 12 (next (word 13 (codes "a")) (next (word 15 (codes "b")) none))) none))) ≡ [])
     × (found (list 0 (next (word 1 (codes "classorder")) (next (list 12 (next (word 13 (codes "unordered")) (next (word 23 (codes "a")) (next (word 25 (codes "b")) none)))) none))) ≡ [])
     × (found (list 0 (next (word 1 (codes "classorder")) (next (list 12 (next (word 13 (codes "a")) (next (word 15 (codes "unordered")) none))) none))) ≡ fault causes.ReservedName 15 (codes "unordered") ∷ [])
-unfolding verdict_of cells_of cell_of read_row read_word read_string read_list rules containers types classes users entry_of set_aside_words later_words left_out_words heads first_words begins_with
+unfolding verdict_of cells_of cell_of read_row read_word read_string read_list rules containers types classes levels entry_of set_aside_words later_words left_out_words heads first_words begins_with
 statements_2 = (refl, refl, refl, refl, refl, refl, refl, refl)
 
 -- `(classorder ())`
@@ -414,7 +414,7 @@ pub statements_3 : (found (list 0 (next (word 1 (codes "classorder")) (next (lis
     × (found (list 0 (next (word 1 (codes "typealiasactual")) (next (word 17 (codes "a")) (next (word 19 (codes "b")) none)))) ≡ [])
     × (found (list 0 (next (word 1 (codes "typealiasactual")) (next (word 17 (codes "a")) (next (list 19 (next (word 20 (codes "b")) none)) none)))) ≡ fault causes.BadShape 0 (codes "typealiasactual") ∷ [])
     × (found (list 0 (next (word 1 (codes "typeattribute")) (next (word 15 (codes "a")) none))) ≡ [])
-unfolding verdict_of cells_of cell_of read_row read_word read_string read_list rules containers types classes users entry_of set_aside_words later_words left_out_words heads first_words begins_with
+unfolding verdict_of cells_of cell_of read_row read_word read_string read_list rules containers types classes levels entry_of set_aside_words later_words left_out_words heads first_words begins_with
 statements_3 = (refl, refl, refl, refl, refl, refl, refl, refl)
 
 -- `(expandtypeattribute a true)`
@@ -433,7 +433,7 @@ pub statements_4 : (found (list 0 (next (word 1 (codes "expandtypeattribute")) (
     × (found (list 0 (next (word 1 (codes "typetransition")) (next (word 16 (codes "a")) (next (word 18 (codes "b")) (next (word 20 (codes "c")) (next (word 22 (codes "d")) none)))))) ≡ [])
     × (found (list 0 (next (word 1 (codes "typetransition")) (next (word 16 (codes "a")) (next (word 18 (codes "b")) (next (word 20 (codes "c")) (next (Quoted (record { start = 22; end = 28 }) (34 ∷ 110 ∷ 97 ∷ 109 ∷ 101 ∷ 34 ∷ [])) (next (word 29 (codes "d")) none))))))) ≡ [])
     × (found (list 0 (next (word 1 (codes "typetransition")) (next (word 16 (codes "a")) (next (word 18 (codes "b")) (next (word 20 (codes "c")) (next (word 22 (codes "name")) (next (word 27 (codes "d")) none))))))) ≡ [])
-unfolding verdict_of cells_of cell_of read_row read_word read_string read_list rules containers types classes users entry_of set_aside_words later_words left_out_words heads first_words begins_with
+unfolding verdict_of cells_of cell_of read_row read_word read_string read_list rules containers types classes levels entry_of set_aside_words later_words left_out_words heads first_words begins_with
 statements_4 = (refl, refl, refl, refl, refl, refl, refl, refl)
 
 -- `(typetransition a b c all d)`
@@ -452,7 +452,7 @@ pub statements_5 : (found (list 0 (next (word 1 (codes "typetransition")) (next 
     × (found (list 0 (next (word 1 (codes "typechange")) (next (word 12 (codes "a")) (next (word 14 (codes "b")) (next (word 16 (codes "c")) (next (word 18 (codes "d")) none)))))) ≡ [])
     × (found (list 0 (next (word 1 (codes "typechange")) (next (word 12 (codes "a")) (next (word 14 (codes "b")) (next (word 16 (codes "c")) (next (word 18 (codes "n")) (next (word 20 (codes "d")) none))))))) ≡ fault causes.BadShape 0 (codes "typechange") ∷ [])
     × (found (list 0 (next (word 1 (codes "typemember")) (next (word 12 (codes "a")) (next (word 14 (codes "self")) (next (word 19 (codes "c")) (next (word 21 (codes "d")) none)))))) ≡ [])
-unfolding verdict_of cells_of cell_of read_row read_word read_string read_list rules containers types classes users entry_of set_aside_words later_words left_out_words heads first_words begins_with
+unfolding verdict_of cells_of cell_of read_row read_word read_string read_list rules containers types classes levels entry_of set_aside_words later_words left_out_words heads first_words begins_with
 statements_5 = (refl, refl, refl, refl, refl, refl, refl, refl)
 
 -- `(roleattribute r)`
@@ -471,7 +471,7 @@ pub statements_6 : (found (list 0 (next (word 1 (codes "roleattribute")) (next (
     × (found_as keywords.UserLevel (list 0 (next (word 1 (codes "userlevel")) (next (word 11 (codes "u")) (next (list 13 (next (word 14 (codes "s")) none)) none)))) ≡ [])
     × (found_as keywords.UserLevel (list 0 (next (word 1 (codes "userlevel")) (next (word 11 (codes "u")) (next (list 13 (next (word 14 (codes "s")) (next (list 16 (next (word 17 (codes "c")) none)) none))) none)))) ≡ [])
     × (found_as keywords.UserLevel (list 0 (next (word 1 (codes "userlevel")) (next (word 11 (codes "u")) (next (list 13 (next (word 14 (codes "s")) (next (word 16 (codes "c")) (next (word 18 (codes "d")) none)))) none)))) ≡ fault causes.BadShape 0 (codes "userlevel") ∷ [])
-unfolding verdict_of cells_of cell_of read_row read_word read_string read_list rules containers types classes users entry_of set_aside_words later_words left_out_words heads first_words begins_with
+unfolding verdict_of cells_of cell_of read_row read_word read_string read_list rules containers types classes levels entry_of set_aside_words later_words left_out_words heads first_words begins_with
 statements_6 = (refl, refl, refl, refl, refl, refl, refl, refl)
 
 -- `(userlevel u ())`
@@ -490,7 +490,7 @@ pub statements_7 : (found_as keywords.UserLevel (list 0 (next (word 1 (codes "us
     × (found_as keywords.UserRange (list 0 (next (word 1 (codes "userrange")) (next (word 11 (codes "u")) (next (list 13 (next (word 14 (codes "l")) (next (word 16 (codes "m")) (next (word 18 (codes "n")) none)))) none)))) ≡ fault causes.BadShape 0 (codes "userrange") ∷ [])
     × (found_as keywords.Level (list 0 (next (word 1 (codes "level")) (next (word 7 (codes "l")) (next (list 9 (next (word 10 (codes "s")) none)) none)))) ≡ [])
     × (found_as keywords.Level (list 0 (next (word 1 (codes "level")) (next (word 7 (codes "l")) (next (list 9 (next (word 10 (codes "s")) (next (list 12 (next (word 13 (codes "a")) (next (word 15 (codes "b")) none))) none))) none)))) ≡ [])
-unfolding verdict_of cells_of cell_of read_row read_word read_string read_list rules containers types classes users entry_of set_aside_words later_words left_out_words heads first_words begins_with
+unfolding verdict_of cells_of cell_of read_row read_word read_string read_list rules containers types classes levels entry_of set_aside_words later_words left_out_words heads first_words begins_with
 statements_7 = (refl, refl, refl, refl, refl, refl, refl, refl)
 
 -- `(level l s)`
@@ -509,7 +509,7 @@ pub statements_8 : (found_as keywords.Level (list 0 (next (word 1 (codes "level"
     × (found_as keywords.RangeTransition (list 0 (next (word 1 (codes "rangetransition")) (next (word 17 (codes "a")) (next (word 19 (codes "b")) (next (word 21 (codes "c")) (next (word 23 (codes "r")) none)))))) ≡ [])
     × (found_as keywords.RangeTransition (list 0 (next (word 1 (codes "rangetransition")) (next (word 17 (codes "a")) (next (word 19 (codes "b")) (next (word 21 (codes "c")) (next (list 23 (next (list 24 (next (word 25 (codes "s")) none)) (next (list 28 (next (word 29 (codes "s")) none)) none))) none)))))) ≡ [])
     × (found_as keywords.RangeTransition (list 0 (next (word 1 (codes "rangetransition")) (next (word 17 (codes "a")) (next (word 19 (codes "self")) (next (word 24 (codes "c")) (next (word 26 (codes "r")) none)))))) ≡ fault causes.ReservedName 19 (codes "self") ∷ [])
-unfolding verdict_of cells_of cell_of read_row read_word read_string read_list rules containers types classes users entry_of set_aside_words later_words left_out_words heads first_words begins_with
+unfolding verdict_of cells_of cell_of read_row read_word read_string read_list rules containers types classes levels entry_of set_aside_words later_words left_out_words heads first_words begins_with
 statements_8 = (refl, refl, refl, refl, refl, refl, refl, refl)
 
 -- `(sensitivity s)`
@@ -528,7 +528,7 @@ pub statements_9 : (found_as keywords.Sensitivity (list 0 (next (word 1 (codes "
     × (found_as keywords.SensitivityOrder (list 0 (next (word 1 (codes "sensitivityorder")) (next (word 18 (codes "a")) none))) ≡ fault causes.BadShape 0 (codes "sensitivityorder") ∷ [])
     × (found_as keywords.Category (list 0 (next (word 1 (codes "category")) (next (word 10 (codes "c")) none))) ≡ [])
     × (found_as keywords.CategoryAlias (list 0 (next (word 1 (codes "categoryalias")) (next (word 15 (codes "c")) none))) ≡ [])
-unfolding verdict_of cells_of cell_of read_row read_word read_string read_list rules containers types classes users entry_of set_aside_words later_words left_out_words heads first_words begins_with
+unfolding verdict_of cells_of cell_of read_row read_word read_string read_list rules containers types classes levels entry_of set_aside_words later_words left_out_words heads first_words begins_with
 statements_9 = (refl, refl, refl, refl, refl, refl, refl, refl)
 
 -- `(categoryaliasactual a c)`
@@ -547,18 +547,18 @@ pub statements_10 : (found_as keywords.CategoryAliasActual (list 0 (next (word 1
     × (found (list 0 (next (word 1 (codes "neverallow")) (next (word 12 (codes "a")) (next (word 14 (codes "self")) (next (list 19 (next (word 20 (codes "c")) (next (list 22 (next (word 23 (codes "d")) none)) none))) none))))) ≡ [])
     × (found (list 0 (next (word 1 (codes "neverallow")) (next (word 12 (codes "a")) (next (word 14 (codes "other")) (next (list 20 (next (word 21 (codes "c")) (next (list 23 (next (word 24 (codes "d")) none)) none))) none))))) ≡ fault causes.Unsupported 14 (codes "other") ∷ [])
     × (found (list 0 (next (word 1 (codes "macro")) (next (word 7 (codes "m")) (next (list 9 (next (list 10 (next (word 11 (codes "typealias")) (next (word 21 (codes "a")) none))) (next (list 23 (next (word 24 (codes "bool")) (next (word 29 (codes "b")) none))) (next (list 31 (next (word 32 (codes "boolean")) (next (word 40 (codes "c")) none))) (next (list 42 (next (word 43 (codes "classmap")) (next (word 52 (codes "d")) none))) (next (list 54 (next (word 55 (codes "classpermission")) (next (word 71 (codes "e")) none))) none)))))) none)))) ≡ [])
-unfolding verdict_of cells_of cell_of read_row read_word read_string read_list rules containers types classes users entry_of set_aside_words later_words left_out_words heads first_words begins_with
+unfolding verdict_of cells_of cell_of read_row read_word read_string read_list rules containers types classes levels entry_of set_aside_words later_words left_out_words heads first_words begins_with
 statements_10 = (refl, refl, refl, refl, refl, refl, refl, refl)
 
 -- `(macro m ((sensitivity a)(category b)(categoryset c)(level d)(levelrange e)))`
 -- `(macro m ((block a)(ipaddr b)(sensitivityalias c)))`
 -- `(macro m ((self a)(1x b)))`
 -- `(macro m (("type" a)))`
-pub statements_11 : (found (list 0 (next (word 1 (codes "macro")) (next (word 7 (codes "m")) (next (list 9 (next (list 10 (next (word 11 (codes "sensitivity")) (next (word 23 (codes "a")) none))) (next (list 25 (next (word 26 (codes "category")) (next (word 35 (codes "b")) none))) (next (list 37 (next (word 38 (codes "categoryset")) (next (word 50 (codes "c")) none))) (next (list 52 (next (word 53 (codes "level")) (next (word 59 (codes "d")) none))) (next (list 61 (next (word 62 (codes "levelrange")) (next (word 73 (codes "e")) none))) none)))))) none)))) ≡ fault causes.Unsupported 11 (codes "sensitivity") ∷ fault causes.Unsupported 26 (codes "category") ∷ fault causes.Unsupported 38 (codes "categoryset") ∷ fault causes.Unsupported 53 (codes "level") ∷ fault causes.Unsupported 62 (codes "levelrange") ∷ [])
+pub statements_11 : (found (list 0 (next (word 1 (codes "macro")) (next (word 7 (codes "m")) (next (list 9 (next (list 10 (next (word 11 (codes "sensitivity")) (next (word 23 (codes "a")) none))) (next (list 25 (next (word 26 (codes "category")) (next (word 35 (codes "b")) none))) (next (list 37 (next (word 38 (codes "categoryset")) (next (word 50 (codes "c")) none))) (next (list 52 (next (word 53 (codes "level")) (next (word 59 (codes "d")) none))) (next (list 61 (next (word 62 (codes "levelrange")) (next (word 73 (codes "e")) none))) none)))))) none)))) ≡ [])
     × (found (list 0 (next (word 1 (codes "macro")) (next (word 7 (codes "m")) (next (list 9 (next (list 10 (next (word 11 (codes "block")) (next (word 17 (codes "a")) none))) (next (list 19 (next (word 20 (codes "ipaddr")) (next (word 27 (codes "b")) none))) (next (list 29 (next (word 30 (codes "sensitivityalias")) (next (word 47 (codes "c")) none))) none)))) none)))) ≡ fault causes.Unsupported 11 (codes "block") ∷ fault causes.Unsupported 20 (codes "ipaddr") ∷ fault causes.Unsupported 30 (codes "sensitivityalias") ∷ [])
     × (found (list 0 (next (word 1 (codes "macro")) (next (word 7 (codes "m")) (next (list 9 (next (list 10 (next (word 11 (codes "self")) (next (word 16 (codes "a")) none))) (next (list 18 (next (word 19 (codes "1x")) (next (word 22 (codes "b")) none))) none))) none)))) ≡ fault causes.Unsupported 11 (codes "self") ∷ fault causes.Unsupported 19 (codes "1x") ∷ [])
     × (found (list 0 (next (word 1 (codes "macro")) (next (word 7 (codes "m")) (next (list 9 (next (list 10 (next (Quoted (record { start = 11; end = 17 }) (34 ∷ 116 ∷ 121 ∷ 112 ∷ 101 ∷ 34 ∷ [])) (next (word 18 (codes "a")) none))) none)) none)))) ≡ fault causes.BadShape 0 (codes "macro") ∷ [])
-unfolding verdict_of cells_of cell_of read_row read_word read_string read_list rules containers types classes users entry_of set_aside_words later_words left_out_words heads first_words begins_with
+unfolding verdict_of cells_of cell_of read_row read_word read_string read_list rules containers types classes levels entry_of set_aside_words later_words left_out_words heads first_words begins_with
 statements_11 = (refl, refl, refl, refl)
 
 -- `(constrain p (eq u1 u2))`
@@ -573,7 +573,7 @@ pub names_1 : (found_as keywords.Constrain (list 0 (next (word 1 (codes "constra
     × (found (list 0 (next (word 1 (codes "neverallow")) (next (word 12 (codes "a")) (next (word 14 (codes "b")) (next (word 16 (codes "p")) none))))) ≡ [])
     × (found (list 0 (next (word 1 (codes "classpermissionset")) (next (word 20 (codes "p")) (next (list 22 (next (word 23 (codes "c")) (next (list 25 (next (word 26 (codes "not")) (next (word 30 (codes "a")) none))) none))) none)))) ≡ [])
     × (found (list 0 (next (word 1 (codes "classmapping")) (next (word 14 (codes "m")) (next (word 16 (codes "p")) (next (list 18 (next (word 19 (codes "c")) (next (word 21 (codes "all")) none))) none))))) ≡ [])
-unfolding verdict_of cells_of cell_of read_row read_word read_string read_list rules containers types classes users entry_of set_aside_words later_words left_out_words heads first_words begins_with
+unfolding verdict_of cells_of cell_of read_row read_word read_string read_list rules containers types classes levels entry_of set_aside_words later_words left_out_words heads first_words begins_with
 names_1 = (refl, refl, refl, refl, refl, refl)
 
 -- `(common)`
@@ -584,16 +584,16 @@ names_1 = (refl, refl, refl, refl, refl, refl)
 -- `(sensitivityaliasactual)`
 -- `(sensitivityorder)`
 -- `(sensitivitycategory)`
-pub later_1 : (found (list 0 (next (word 1 (codes "common")) none)) ≡ fault causes.BadShape 0 (codes "common") ∷ [])
+pub bare_1 : (found (list 0 (next (word 1 (codes "common")) none)) ≡ fault causes.BadShape 0 (codes "common") ∷ [])
     × (found (list 0 (next (word 1 (codes "classcommon")) none)) ≡ fault causes.BadShape 0 (codes "classcommon") ∷ [])
     × (found (list 0 (next (word 1 (codes "classmap")) none)) ≡ fault causes.BadShape 0 (codes "classmap") ∷ [])
-    × (found (list 0 (next (word 1 (codes "sensitivity")) none)) ≡ fault causes.Unsupported 0 (codes "sensitivity") ∷ [])
-    × (found (list 0 (next (word 1 (codes "sensitivityalias")) none)) ≡ fault causes.Unsupported 0 (codes "sensitivityalias") ∷ [])
-    × (found (list 0 (next (word 1 (codes "sensitivityaliasactual")) none)) ≡ fault causes.Unsupported 0 (codes "sensitivityaliasactual") ∷ [])
-    × (found (list 0 (next (word 1 (codes "sensitivityorder")) none)) ≡ fault causes.Unsupported 0 (codes "sensitivityorder") ∷ [])
-    × (found (list 0 (next (word 1 (codes "sensitivitycategory")) none)) ≡ fault causes.Unsupported 0 (codes "sensitivitycategory") ∷ [])
-unfolding verdict_of cells_of cell_of read_row read_word read_string read_list rules containers types classes users entry_of set_aside_words later_words left_out_words heads first_words begins_with
-later_1 = (refl, refl, refl, refl, refl, refl, refl, refl)
+    × (found (list 0 (next (word 1 (codes "sensitivity")) none)) ≡ fault causes.BadShape 0 (codes "sensitivity") ∷ [])
+    × (found (list 0 (next (word 1 (codes "sensitivityalias")) none)) ≡ fault causes.BadShape 0 (codes "sensitivityalias") ∷ [])
+    × (found (list 0 (next (word 1 (codes "sensitivityaliasactual")) none)) ≡ fault causes.BadShape 0 (codes "sensitivityaliasactual") ∷ [])
+    × (found (list 0 (next (word 1 (codes "sensitivityorder")) none)) ≡ fault causes.BadShape 0 (codes "sensitivityorder") ∷ [])
+    × (found (list 0 (next (word 1 (codes "sensitivitycategory")) none)) ≡ fault causes.BadShape 0 (codes "sensitivitycategory") ∷ [])
+unfolding verdict_of cells_of cell_of read_row read_word read_string read_list rules containers types classes levels entry_of set_aside_words later_words left_out_words heads first_words begins_with
+bare_1 = (refl, refl, refl, refl, refl, refl, refl, refl)
 
 -- `(mls)`
 -- `(category)`
@@ -603,16 +603,16 @@ later_1 = (refl, refl, refl, refl, refl, refl, refl, refl)
 -- `(categoryset)`
 -- `(booleanif)`
 -- `(roleallow)`
-pub later_2 : (found (list 0 (next (word 1 (codes "mls")) none)) ≡ fault causes.Unsupported 0 (codes "mls") ∷ [])
-    × (found (list 0 (next (word 1 (codes "category")) none)) ≡ fault causes.Unsupported 0 (codes "category") ∷ [])
-    × (found (list 0 (next (word 1 (codes "categoryalias")) none)) ≡ fault causes.Unsupported 0 (codes "categoryalias") ∷ [])
-    × (found (list 0 (next (word 1 (codes "categoryaliasactual")) none)) ≡ fault causes.Unsupported 0 (codes "categoryaliasactual") ∷ [])
-    × (found (list 0 (next (word 1 (codes "categoryorder")) none)) ≡ fault causes.Unsupported 0 (codes "categoryorder") ∷ [])
-    × (found (list 0 (next (word 1 (codes "categoryset")) none)) ≡ fault causes.Unsupported 0 (codes "categoryset") ∷ [])
+pub bare_2 : (found (list 0 (next (word 1 (codes "mls")) none)) ≡ fault causes.BadShape 0 (codes "mls") ∷ [])
+    × (found (list 0 (next (word 1 (codes "category")) none)) ≡ fault causes.BadShape 0 (codes "category") ∷ [])
+    × (found (list 0 (next (word 1 (codes "categoryalias")) none)) ≡ fault causes.BadShape 0 (codes "categoryalias") ∷ [])
+    × (found (list 0 (next (word 1 (codes "categoryaliasactual")) none)) ≡ fault causes.BadShape 0 (codes "categoryaliasactual") ∷ [])
+    × (found (list 0 (next (word 1 (codes "categoryorder")) none)) ≡ fault causes.BadShape 0 (codes "categoryorder") ∷ [])
+    × (found (list 0 (next (word 1 (codes "categoryset")) none)) ≡ fault causes.BadShape 0 (codes "categoryset") ∷ [])
     × (found (list 0 (next (word 1 (codes "booleanif")) none)) ≡ fault causes.BadShape 0 (codes "booleanif") ∷ [])
-    × (found (list 0 (next (word 1 (codes "roleallow")) none)) ≡ fault causes.Unsupported 0 (codes "roleallow") ∷ [])
-unfolding verdict_of cells_of cell_of read_row read_word read_string read_list rules containers types classes users entry_of set_aside_words later_words left_out_words heads first_words begins_with
-later_2 = (refl, refl, refl, refl, refl, refl, refl, refl)
+    × (found (list 0 (next (word 1 (codes "roleallow")) none)) ≡ fault causes.BadShape 0 (codes "roleallow") ∷ [])
+unfolding verdict_of cells_of cell_of read_row read_word read_string read_list rules containers types classes levels entry_of set_aside_words later_words left_out_words heads first_words begins_with
+bare_2 = (refl, refl, refl, refl, refl, refl, refl, refl)
 
 -- `(userlevel)`
 -- `(userrange)`
@@ -622,16 +622,16 @@ later_2 = (refl, refl, refl, refl, refl, refl, refl, refl)
 -- `(classorder)`
 -- `(boolean)`
 -- `(level)`
-pub later_3 : (found (list 0 (next (word 1 (codes "userlevel")) none)) ≡ fault causes.Unsupported 0 (codes "userlevel") ∷ [])
-    × (found (list 0 (next (word 1 (codes "userrange")) none)) ≡ fault causes.Unsupported 0 (codes "userrange") ∷ [])
+pub bare_3 : (found (list 0 (next (word 1 (codes "userlevel")) none)) ≡ fault causes.BadShape 0 (codes "userlevel") ∷ [])
+    × (found (list 0 (next (word 1 (codes "userrange")) none)) ≡ fault causes.BadShape 0 (codes "userrange") ∷ [])
     × (found (list 0 (next (word 1 (codes "classpermission")) none)) ≡ fault causes.BadShape 0 (codes "classpermission") ∷ [])
     × (found (list 0 (next (word 1 (codes "classpermissionset")) none)) ≡ fault causes.BadShape 0 (codes "classpermissionset") ∷ [])
     × (found (list 0 (next (word 1 (codes "classmapping")) none)) ≡ fault causes.BadShape 0 (codes "classmapping") ∷ [])
     × (found (list 0 (next (word 1 (codes "classorder")) none)) ≡ fault causes.BadShape 0 (codes "classorder") ∷ [])
     × (found (list 0 (next (word 1 (codes "boolean")) none)) ≡ fault causes.BadShape 0 (codes "boolean") ∷ [])
-    × (found (list 0 (next (word 1 (codes "level")) none)) ≡ fault causes.Unsupported 0 (codes "level") ∷ [])
-unfolding verdict_of cells_of cell_of read_row read_word read_string read_list rules containers types classes users entry_of set_aside_words later_words left_out_words heads first_words begins_with
-later_3 = (refl, refl, refl, refl, refl, refl, refl, refl)
+    × (found (list 0 (next (word 1 (codes "level")) none)) ≡ fault causes.BadShape 0 (codes "level") ∷ [])
+unfolding verdict_of cells_of cell_of read_row read_word read_string read_list rules containers types classes levels entry_of set_aside_words later_words left_out_words heads first_words begins_with
+bare_3 = (refl, refl, refl, refl, refl, refl, refl, refl)
 
 -- `(levelrange)`
 -- `(rangetransition)`
@@ -640,15 +640,15 @@ later_3 = (refl, refl, refl, refl, refl, refl, refl, refl)
 -- `(mlsconstrain)`
 -- `(auditallow)`
 -- `(dontaudit)`
-pub later_4 : (found (list 0 (next (word 1 (codes "levelrange")) none)) ≡ fault causes.Unsupported 0 (codes "levelrange") ∷ [])
-    × (found (list 0 (next (word 1 (codes "rangetransition")) none)) ≡ fault causes.Unsupported 0 (codes "rangetransition") ∷ [])
+pub bare_4 : (found (list 0 (next (word 1 (codes "levelrange")) none)) ≡ fault causes.BadShape 0 (codes "levelrange") ∷ [])
+    × (found (list 0 (next (word 1 (codes "rangetransition")) none)) ≡ fault causes.BadShape 0 (codes "rangetransition") ∷ [])
     × (found (list 0 (next (word 1 (codes "neverallow")) none)) ≡ fault causes.BadShape 0 (codes "neverallow") ∷ [])
-    × (found (list 0 (next (word 1 (codes "constrain")) none)) ≡ fault causes.Unsupported 0 (codes "constrain") ∷ [])
-    × (found (list 0 (next (word 1 (codes "mlsconstrain")) none)) ≡ fault causes.Unsupported 0 (codes "mlsconstrain") ∷ [])
+    × (found (list 0 (next (word 1 (codes "constrain")) none)) ≡ fault causes.BadShape 0 (codes "constrain") ∷ [])
+    × (found (list 0 (next (word 1 (codes "mlsconstrain")) none)) ≡ fault causes.BadShape 0 (codes "mlsconstrain") ∷ [])
     × (found (list 0 (next (word 1 (codes "auditallow")) none)) ≡ fault causes.BadShape 0 (codes "auditallow") ∷ [])
     × (found (list 0 (next (word 1 (codes "dontaudit")) none)) ≡ fault causes.BadShape 0 (codes "dontaudit") ∷ [])
-unfolding verdict_of cells_of cell_of read_row read_word read_string read_list rules containers types classes users entry_of set_aside_words later_words left_out_words heads first_words begins_with
-later_4 = (refl, refl, refl, refl, refl, refl, refl)
+unfolding verdict_of cells_of cell_of read_row read_word read_string read_list rules containers types classes levels entry_of set_aside_words later_words left_out_words heads first_words begins_with
+bare_4 = (refl, refl, refl, refl, refl, refl, refl)
 
 -- `(boolean bo true)`
 -- `(booleanif bo (false (allow b a (file (open)))))`
@@ -666,7 +666,7 @@ pub rows_1 : (found (list 0 (next (word 1 (codes "boolean")) (next (word 9 (code
     × (found_as keywords.Category (list 0 (next (word 1 (codes "category")) (next (word 10 (codes "c0")) none))) ≡ [])
     × (found_as keywords.SensitivityOrder (list 0 (next (word 1 (codes "sensitivityorder")) (next (list 18 (next (word 19 (codes "s0")) (next (word 22 (codes "s1")) none))) none))) ≡ [])
     × (found_as keywords.CategoryOrder (list 0 (next (word 1 (codes "categoryorder")) (next (list 15 (next (word 16 (codes "c0")) (next (word 19 (codes "c1")) (next (word 22 (codes "c2")) (next (word 25 (codes "c3")) none))))) none))) ≡ [])
-unfolding verdict_of cells_of cell_of read_row read_word read_string read_list rules containers types classes users entry_of set_aside_words later_words left_out_words heads first_words begins_with
+unfolding verdict_of cells_of cell_of read_row read_word read_string read_list rules containers types classes levels entry_of set_aside_words later_words left_out_words heads first_words begins_with
 rows_1 = (refl, refl, refl, refl, refl, refl, refl, refl)
 
 -- `(sensitivitycategory s0 (all))`
@@ -685,7 +685,7 @@ pub rows_2 : (found_as keywords.SensitivityCategory (list 0 (next (word 1 (codes
     × (found (list 0 (next (word 1 (codes "roletype")) (next (word 10 (codes "system_r")) (next (word 19 (codes "foo_t")) none)))) ≡ [])
     × (found (list 0 (next (word 1 (codes "typeattributeset")) (next (word 18 (codes "cil_gen_require")) (next (word 34 (codes "foo_t")) none)))) ≡ [])
     × (found (list 0 (next (word 1 (codes "optional")) (next (word 10 (codes "foo_optional_2")) (next (list 25 (next (word 26 (codes "typeattributeset")) (next (word 43 (codes "cil_gen_require")) (next (word 59 (codes "bar_t")) none)))) (next (list 66 (next (word 67 (codes "allow")) (next (word 73 (codes "foo_t")) (next (word 79 (codes "bar_t")) (next (list 85 (next (word 86 (codes "file")) (next (list 91 (next (word 92 (codes "read")) none)) none))) none))))) none))))) ≡ [])
-unfolding verdict_of cells_of cell_of read_row read_word read_string read_list rules containers types classes users entry_of set_aside_words later_words left_out_words heads first_words begins_with
+unfolding verdict_of cells_of cell_of read_row read_word read_string read_list rules containers types classes levels entry_of set_aside_words later_words left_out_words heads first_words begins_with
 rows_2 = (refl, refl, refl, refl, refl, refl, refl, refl)
 
 -- `(optional foo_optional_3 (typeattributeset cil_gen_require foo_t) (allow foo_t self (file (open read ))))`
@@ -702,5 +702,5 @@ pub rows_3 : (found (list 0 (next (word 1 (codes "optional")) (next (word 10 (co
     × (found (list 0 (next (word 1 (codes "classmap")) (next (word 10 (codes "m")) (next (list 12 (next (word 13 (codes "rw")) none)) none)))) ≡ [])
     × (found (list 0 (next (word 1 (codes "classmapping")) (next (word 14 (codes "m")) (next (word 16 (codes "rw")) (next (list 19 (next (word 20 (codes "file")) (next (list 25 (next (word 26 (codes "all")) none)) none))) none))))) ≡ [])
     × (found (list 0 (next (word 1 (codes "allow")) (next (word 7 (codes "b")) (next (word 9 (codes "a")) (next (list 11 (next (word 12 (codes "m")) (next (list 14 (next (word 15 (codes "rw")) none)) none))) none))))) ≡ [])
-unfolding verdict_of cells_of cell_of read_row read_word read_string read_list rules containers types classes users entry_of set_aside_words later_words left_out_words heads first_words begins_with
+unfolding verdict_of cells_of cell_of read_row read_word read_string read_list rules containers types classes levels entry_of set_aside_words later_words left_out_words heads first_words begins_with
 rows_3 = (refl, refl, refl, refl, refl, refl, refl)

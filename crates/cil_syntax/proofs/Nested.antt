@@ -17,10 +17,10 @@ use Rattle.cil_syntax.specs.Grammar.{FitsRow, name, word, one, as_many, not_as_m
 use Rattle.cil_syntax.specs.Program.{IsNested, begins_as, begins_with_declared, begins_with_name, begins_with_word, is_begun, is_begun_as, program_of}
 use Rattle.cil_syntax.specs.Shapes.{Row, item, declared_name, looked_up}
 use Rattle.cil_syntax.specs.Spelling.{same_bytes}
-use Rattle.cil_syntax.specs.Table.{Entry, classes, containers, effective, entry_of, users, rules, set_aside, set_aside_words, table, types, in_rules, in_containers, in_types, in_classes, in_users}
+use Rattle.cil_syntax.specs.Table.{Entry, classes, containers, effective, entry_of, levels, rules, set_aside, set_aside_words, table, types, in_rules, in_containers, in_types, in_classes, in_levels}
 use Rattle.cil_syntax.specs.Terms.{Terms}
 use Rattle.cil_syntax.specs.Told.{AreUnder}
-use Rattle.cil_syntax.specs.Written.{Written, allows, is_abstraction, is_outside, may_stand, names_its_block, IsWritten, written, ShapeFault, inner, fault_of, written_cmp}
+use Rattle.cil_syntax.specs.Written.{Written, allows, is_abstraction, is_outside, may_stand, names_its_block, IsWritten, written, FormFault, inner, fault_of, written_cmp}
 use Rattle.cil_syntax.proofs.SpelledSo.{read_as_spelled}
 
 -- ---- how statements begin
@@ -95,16 +95,16 @@ own_listed : (ks : List Keyword) (entry : Entry) → Contains (map entry_of ks) 
 own_listed ks entry c = of_mapped entry_of IsOwn own_entry ks entry c
 
 own_in : (entry : Entry) → Contains table entry → IsOwn entry
-unfolding rules containers types classes users
+unfolding rules containers types classes levels
 own_in entry c =
     elim (Contains-append_cases effective (map set_aside set_aside_words) entry c) [
-      | inl d ↦ elim (Contains-append_cases rules (containers ++ (types ++ (classes ++ users))) entry d) [
+      | inl d ↦ elim (Contains-append_cases rules (containers ++ (types ++ (classes ++ levels))) entry d) [
         | inl e ↦ own_listed in_rules entry e
-        | inr e ↦ elim (Contains-append_cases containers (types ++ (classes ++ users)) entry e) [
+        | inr e ↦ elim (Contains-append_cases containers (types ++ (classes ++ levels)) entry e) [
           | inl f ↦ own_listed in_containers entry f
-          | inr f ↦ elim (Contains-append_cases types (classes ++ users) entry f) [
+          | inr f ↦ elim (Contains-append_cases types (classes ++ levels) entry f) [
             | inl g ↦ own_listed in_types entry g
-            | inr g ↦ elim (Contains-append_cases classes users entry g) [ inl h ↦ own_listed in_classes entry h | inr h ↦ own_listed in_users entry h ]
+            | inr g ↦ elim (Contains-append_cases classes levels entry g) [ inl h ↦ own_listed in_classes entry h | inr h ↦ own_listed in_levels entry h ]
           ]
         ]
       ]
@@ -113,7 +113,7 @@ own_in entry c =
 
 -- ---- a program that was read
 
-module _ (modules : List (List ℕ)) (clean : (f : Fault) → ShapeFault modules f → ⊥) where
+module _ (modules : List (List ℕ)) (clean : (f : Fault) → FormFault modules f → ⊥) where
   -- what is asked of a statement where it stands
   record IsInPlace (w : Written) : Type 0 where
     allowed : may_stand w.context (entry_of w.statement.keyword) ≡ true

@@ -20,7 +20,7 @@ use Rattle.cil_syntax.specs.Heads.{Head, heads, has_ranges, begins_with, first_w
 use Rattle.cil_syntax.specs.Words.{read_sole, read_word, read_string}
 use Rattle.cil_syntax.specs.Slices.{AreWritten, EachText, EachTextIn, WordsAreSlices}
 use Rattle.cil_syntax.specs.Spelling.{same_bytes}
-use Rattle.cil_syntax.specs.Table.{Body, plain, behind, branched, Entry, entry_of, effective, entry_named, named_in, rules, containers, types, classes, users, set_aside, set_aside_words, table}
+use Rattle.cil_syntax.specs.Table.{Body, plain, behind, branched, Entry, entry_of, effective, entry_named, named_in, rules, containers, types, classes, levels, set_aside, set_aside_words, table}
 use Rattle.cil_syntax.specs.Terms.{Term, Leaf, Name, Form, Terms, nil, cons, spot_of}
 use Rattle.cil_syntax.specs.Written.{Context, Verdict, Refused, Shaped, by_reading, by_entry, by_head, by_items, may_stand, names_its_block, verdict_of, IsItem, first, later, skipped, beside, all_behind_first, within, body_of, FoundIn, top, inside, Written, IsWritten, written}
 
@@ -143,7 +143,7 @@ entries_so [] h = tt
 entries_so (e ∷ es) h = (row_so e.row (both_true (has_plain_row e) (list_all has_plain_row es) h).0, entries_so es (both_true (has_plain_row e) (list_all has_plain_row es) h).1)
 
 effective_plain : ArePlain effective
-unfolding rules containers types classes users entry_of
+unfolding rules containers types classes levels entry_of
 effective_plain = entries_so effective refl
 
 table_plain : ArePlain table

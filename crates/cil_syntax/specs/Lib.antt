@@ -1,3 +1,4 @@
+pub mod AllRead
 pub mod Around
 pub mod Depths
 pub mod Entries

@@ -9,7 +9,7 @@ use crate::term::Op;
 /// A macro.
 const MACROS: Shape = Shape::LookedUp(Sign::Macros);
 
-/// The kind of a parameter; `typealias` is another word for `type`. A kind that is not supported is reported.
+/// The kind of a parameter; `typealias` is another word for `type`. Any other word is reported.
 const PARAMETER_KIND: Shape = Shape::Either(
     &Shape::Fixed(b"type", Op::TypeKind),
     &Shape::Either(
@@ -45,16 +45,19 @@ const KIND_OF_BOOLEAN: Shape = Shape::Either(
     ),
 );
 
-/// The kinds of levels and what they are made of, which are not supported yet, and any other word.
+/// The kinds of levels and what they are made of, and any other word.
 const KIND_OF_LEVEL: Shape = Shape::Either(
-    &Shape::LeftOut(b"sensitivity"),
+    &Shape::Fixed(b"sensitivity", Op::SensitivityKind),
     &Shape::Either(
-        &Shape::LeftOut(b"category"),
+        &Shape::Fixed(b"category", Op::CategoryKind),
         &Shape::Either(
-            &Shape::LeftOut(b"categoryset"),
+            &Shape::Fixed(b"categoryset", Op::CategorySetKind),
             &Shape::Either(
-                &Shape::LeftOut(b"level"),
-                &Shape::Either(&Shape::LeftOut(b"levelrange"), &Shape::AnyLeftOut),
+                &Shape::Fixed(b"level", Op::LevelKind),
+                &Shape::Either(
+                    &Shape::Fixed(b"levelrange", Op::LevelRangeKind),
+                    &Shape::AnyLeftOut,
+                ),
             ),
         ),
     ),

@@ -1,22 +1,24 @@
 //! The written statements of a set of modules.
 
-ghost use Rattle.std.specs.Prelude.{◌≡◌, ◌++◌, ◌∷◌, [], OnOk};
+ghost use Rattle.std.specs.Prelude.{◌≡◌, ◌++◌, ◌∷◌, [], IfOk, OnOk};
 ghost use Rattle.cil_base.specs.Lists.{Lists};
 ghost use Rattle.cil_sexpr.specs.Text.{IsReadable};
 ghost use Rattle.cil_sexpr.specs.Tree.{inner_of};
 ghost use Rattle.cil_sexpr.specs.View.{node_of, nodes_of};
+ghost use Rattle.cil_syntax.specs.AllRead.{IsAllRead};
 ghost use Rattle.cil_syntax.specs.Entries.{body_of};
 ghost use Rattle.cil_syntax.specs.Program.{program_of};
 ghost use Rattle.cil_faults.specs.Refusal.{Answers};
 ghost use Rattle.cil_syntax.specs.Standpoints.{forked, found_behind, found_from, found_inside, opened, opening_by};
 ghost use Rattle.cil_syntax.specs.Told.{AreJudgedHere, IsModuleRead, StandsIn};
-ghost use Rattle.cil_syntax.specs.Written.{IsWritten, ShapeFault, at_top, written_cmp};
+ghost use Rattle.cil_syntax.specs.Written.{FormFault, IsWritten, ShapeFault, at_top, written_cmp};
 
 use crate::entry::Body;
 use crate::kind::Keyword;
 use crate::place::Place;
 use crate::reader::Reader;
 use crate::term::Term;
+use crate::to_come::report_to_come;
 use cil_base::NoMemory;
 use cil_faults::{Failure, Fault, FaultList, Spot};
 use cil_modset::ModuleSet;
@@ -78,10 +80,44 @@ impl<'a> Program<'a> {
     }
 }
 
-/// The statements that are written in modules; or, where one of them or one of its words is at fault, all faults
-/// of shape, or out of memory. Each module is read once; its tree is dropped before the next is read.
+/// The statements that are written in modules; or, where one of them or one of its words is at fault, or its meaning is still to
+/// come, all faults of shape, or out of memory. Each module is read once; its tree is dropped before the next is read.
 pub fn written(alloc: Global, modules: &ModuleSet) -> Result<Program<'_>, Failure>
     ensures { Answers (λ p. Lists written_cmp (IsWritten modules.now) (program_of p)) (ShapeFault modules.now) result }
+{
+    let AllRead {
+        statements,
+        mut faults,
+    } = read_all(alloc, modules)?;
+    report_to_come(alloc, statements.as_slice(), &mut faults)?;
+    match FaultList::of(faults) {
+        Some(list) => Err(Failure::Faults(list)),
+        None => Ok(Program { statements }),
+    }
+}
+
+/// The same, with the statements whose meaning is still to come: for crates that give them one, and their tests. No policy is
+/// compiled from it.
+pub fn all_written(alloc: Global, modules: &ModuleSet) -> Result<Program<'_>, Failure>
+    ensures { Answers (λ p. Lists written_cmp (IsWritten modules.now) (program_of p)) (FormFault modules.now) result }
+{
+    let AllRead { statements, faults } = read_all(alloc, modules)?;
+    match FaultList::of(faults) {
+        Some(list) => Err(Failure::Faults(list)),
+        None => Ok(Program { statements }),
+    }
+}
+
+/// The statements of modules, and what is wrong with the form of them and of their words.
+#[derive(Drop)]
+struct AllRead<'a> {
+    statements: Vec<Statement<'a>>,
+    faults: Vec<Fault>,
+}
+
+/// Reads all modules.
+fn read_all(alloc: Global, modules: &ModuleSet) -> Result<AllRead<'_>, NoMemory>
+    ensures { IfOk result (IsAllRead modules.now) }
 {
     // That a text has one tree makes what was read what is written.
     texts::one_tree();
@@ -97,10 +133,7 @@ pub fn written(alloc: Global, modules: &ModuleSet) -> Result<Program<'_>, Failur
         };
         reader.read_module(&mut statements, &mut faults)?;
     }
-    match FaultList::of(faults) {
-        Some(list) => Err(Failure::Faults(list)),
-        None => Ok(Program { statements }),
-    }
+    Ok(AllRead { statements, faults })
 }
 
 impl<'r, 'a> Reader<'r, 'a> {

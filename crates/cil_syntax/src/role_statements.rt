@@ -58,3 +58,11 @@ pub(crate) const ROLETRANSITION: Entry = Entry {
     declares: false,
     row: Row::Items(&[ROLES, TYPES, CLASSES, PLAIN_ROLE]),
 };
+
+pub(crate) const ROLEALLOW: Entry = Entry {
+    word: b"roleallow",
+    keyword: Keyword::RoleAllow,
+    nesting: Nesting::InOptional,
+    declares: false,
+    row: Row::Items(&[ROLES, ROLES]),
+};

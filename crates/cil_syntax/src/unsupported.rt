@@ -7,28 +7,7 @@ ghost use Rattle.cil_syntax.specs.Table.{is_unsupported, later_words, left_out_w
 use crate::spelling;
 
 /// The statements that are to be supported, and are not yet.
-const LATER_WORDS: [&[u8]; 20] = [
-    b"sensitivity",
-    b"sensitivityalias",
-    b"sensitivityaliasactual",
-    b"sensitivityorder",
-    b"sensitivitycategory",
-    b"mls",
-    b"category",
-    b"categoryalias",
-    b"categoryaliasactual",
-    b"categoryorder",
-    b"categoryset",
-    b"roleallow",
-    b"userlevel",
-    b"userrange",
-    b"level",
-    b"levelrange",
-    b"rangetransition",
-    b"constrain",
-    b"mlsconstrain",
-    b"typepermissive",
-];
+const LATER_WORDS: [&[u8]; 1] = [b"typepermissive"];
 
 /// The statements that this product does not support.
 const LEFT_OUT_WORDS: [&[u8]; 12] = [

@@ -9,6 +9,9 @@ use crate::shared_shapes::ONE_NAME;
 /// A user or a user attribute.
 const USERS: Shape = Shape::LookedUp(Sign::Users);
 
+/// A user, and no user attribute.
+pub(crate) const PLAIN_USER: Shape = Shape::LookedUp(Sign::PlainUser);
+
 /// A user attribute.
 const USER_ATTRIBUTES: Shape = Shape::LookedUp(Sign::UserAttributes);
 
