@@ -250,16 +250,12 @@ def are_reasons(text, lines):
 
 
 def forms():
-    """The statements of scripts/forms.txt with their faults, and what of the language is accepted there."""
-    off = table.ACCEPTED._replace(statements=table.WHOLE.statements)
-    language = off
+    """The statements of scripts/forms.txt with their faults, whatever the statements mean."""
     path = pathlib.Path(__file__).resolve().parent.parent / "scripts/forms.txt"
     for line in path.read_text("utf-8").splitlines():
-        if line.startswith("#"):
-            language = table.ACCEPTED if line == "# later" else off
-        elif line:
+        if line and not line.startswith("#"):
             end = line.rindex(")") + 1
-            yield line[:end], sorted(line[end:].split()), language
+            yield line[:end], sorted(line[end:].split()), table.WHOLE
 
 
 def faults_of_form(text, language):

@@ -677,8 +677,8 @@ LATER = [
 ]
 
 STAGES = [
-    (["sets"], SETS), (["maps"], MAPS), (["maps", "arguments"], ARGUMENTS), (["maps", "audit"], AUDIT),
-    (["sets", "maps", "arguments", "booleans"], BOOLEANS), (["sets", "maps", "transitions"], TRANSITIONS), (None, LATER),
+    (["sets"], SETS), (["maps"], MAPS), (["maps"], ARGUMENTS), (["maps", "audit"], AUDIT),
+    (["sets", "maps", "booleans"], BOOLEANS), (["sets", "maps", "transitions"], TRANSITIONS), (None, LATER),
 ]
 LONG = [
     (["sets"], [

@@ -140,49 +140,39 @@ ARGUMENTS = {
 }
 KINDS = PLAIN_KINDS.union(ARGUMENTS)
 
-# What of it is accepted: statements; kinds of parameters; `all` and operators in sets; names of class permissions; the
-# requests CHECK and SET.
+# What of it is accepted: the statements that have a meaning (the others are read, and 22); kinds of parameters; `all` and
+# operators in sets; names of class permissions; the requests CHECK and SET.
 Language = collections.namedtuple("Language", "statements kinds has_sets has_permission_names has_checks has_settings")
 
 WHOLE = Language(SET_ASIDE.union(ROWS), KINDS, True, True, True, True)
 
-# What every stage builds on: statements, and kinds of parameters.
-FIRST = (
-    b"""
+# The statements on which every stage builds.
+FIRST = b"""
     type role user class common classcommon roletype userrole allow
     block blockabstract blockinherit macro call optional
-    """.split(),
-    PLAIN_KINDS.union(b"type role user class".split()),
-)
+    """.split()
 
-# What comes by stages, in the same way.
+# The statements to which stages give a meaning.
 STAGES = {
-    "sets": (
-        b"""
+    "sets": b"""
         typealias typealiasactual typeattribute typeattributeset expandtypeattribute
         roleattribute roleattributeset userattribute userattributeset
         """.split(),
-        [b"typealias"],
-    ),
-    "maps": (b"classmap classmapping classpermission classpermissionset classorder".split(), [b"classmap"]),
-    "arguments": ([], [b"classpermission"]),
-    "audit": (b"auditallow dontaudit".split(), []),
-    "booleans": (b"boolean booleanif neverallow".split(), b"boolean bool".split()),
-    "transitions": (b"roletransition typetransition typechange typemember".split(), []),
+    "maps": b"classmap classmapping classpermission classpermissionset classorder".split(),
+    "audit": b"auditallow dontaudit".split(),
+    "booleans": b"boolean booleanif neverallow".split(),
+    "transitions": b"roletransition typetransition typechange typemember".split(),
 }
 
 # The stages that the program accepts today. Whoever brings one there enters it here.
-TODAY = "sets", "transitions", "maps", "arguments", "audit", "booleans"
+TODAY = "sets", "transitions", "maps", "audit", "booleans"
 
 
 def accepting(stages):
     """What is accepted today, and what these stages add."""
     chosen = {*TODAY, *stages}
-    statements, kinds = set(SET_ASIDE).union(FIRST[0]), set(FIRST[1])
-    for stage in chosen:
-        statements.update(STAGES[stage][0])
-        kinds.update(STAGES[stage][1])
-    return Language(statements, kinds, True, "maps" in chosen, "audit" in chosen, "booleans" in chosen)
+    statements = SET_ASIDE.union(FIRST, *(STAGES[stage] for stage in chosen))
+    return Language(statements, KINDS, True, "maps" in chosen, "audit" in chosen, "booleans" in chosen)
 
 
 ACCEPTED = accepting(())

@@ -1,18 +1,15 @@
 -- Each form of statement, read by the definition: which faults its words have, or that it is refused.
 -- Written by scripts/forms from scripts/forms.txt, where the faults stand that are expected.
-use Rattle.std.specs.Prelude.{◌≡◌, ℕ, ◌+◌, List, [], ◌∷◌, length, codes, Some, refl}
-use Rattle.cil_sexpr.specs.Tree.{Node, Word as TextWord, Quoted, Branch, Nodes, none, next, span_of, inner_of}
+use Rattle.std.specs.Prelude.{◌≡◌, ℕ, ◌+◌, List, [], ◌∷◌, length, codes, refl}
+use Rattle.cil_sexpr.specs.Tree.{Node, Word as TextWord, Quoted, Branch, Nodes, none, next}
 use Rattle.cil_faults.specs.declared.code.FaultCode.{FaultCode}
 use Rattle.cil_faults.specs.declared.code.FaultCode.TheVariants as causes
-use Rattle.cil_syntax.specs.declared.kind.Keyword.{Keyword}
-use Rattle.cil_syntax.specs.declared.kind.Keyword.TheVariants as keywords
-use Rattle.cil_syntax.specs.Shapes.{Cell, Inner}
+use Rattle.cil_syntax.specs.Shapes.{Inner}
 use Rattle.cil_syntax.specs.Words.{read_string, read_word}
 use Rattle.cil_syntax.specs.Heads.{begins_with, first_words, heads}
 use Rattle.cil_syntax.specs.Readings.{cell_of, cells_of, read_list, read_row}
 use Rattle.cil_syntax.specs.Table.{entry_of, rules, containers, types, classes, levels, later_words, set_aside_words, left_out_words}
-use Rattle.cil_syntax.specs.Terms.{spot_of}
-use Rattle.cil_syntax.specs.Written.{Verdict, Refused, Shaped, by_entry, verdict_of, at_top}
+use Rattle.cil_syntax.specs.Written.{Verdict, Refused, Shaped, verdict_of, at_top}
 
 -- a word at a place, and a list that begins at one
 abbrev word : ℕ → List ℕ → Node
@@ -31,14 +28,6 @@ faults_by (Shaped s faults) = faults
 -- the faults that a node at the top of module 7 has
 abbrev found : Node → List Inner
 found n = faults_by (verdict_of 7 at_top n)
-
-abbrev behind_first : List Cell → List Cell
-behind_first [] = []
-behind_first (c ∷ cs) = cs
-
--- those that it has by the entry of a keyword, which need not be supported
-abbrev found_as : Keyword → Node → List Inner
-found_as k n = faults_by (by_entry at_top (spot_of 7 (span_of n)) [] (behind_first (cells_of 7 (inner_of n))) (Some (entry_of k)))
 
 -- `(typeattributeset x a)`
 -- `(typeattributeset x (a b))`
@@ -93,7 +82,7 @@ pub sets_3 : (found (list 0 (next (word 1 (codes "typeattributeset")) (next (wor
     × (found (list 0 (next (word 1 (codes "typeattributeset")) (next (word 18 (codes "x")) (next (word 20 (codes "b..c")) none)))) ≡ fault causes.BadName 20 (codes "b..c") ∷ [])
     × (found (list 0 (next (word 1 (codes "roleattributeset")) (next (word 18 (codes "x")) (next (list 20 (next (word 21 (codes "and")) (next (word 25 (codes "r1")) (next (word 28 (codes "r")) none)))) none)))) ≡ fault causes.ReservedName 25 (codes "r1") ∷ [])
     × (found (list 0 (next (word 1 (codes "userattributeset")) (next (word 18 (codes "x")) (next (list 20 (next (word 21 (codes "not")) (next (word 25 (codes ".a")) none))) none)))) ≡ [])
-    × (found_as keywords.CategorySet (list 0 (next (word 1 (codes "categoryset")) (next (word 13 (codes "c")) (next (list 15 (next (word 16 (codes "range")) (next (word 22 (codes "a")) (next (word 24 (codes "b")) none)))) none)))) ≡ [])
+    × (found (list 0 (next (word 1 (codes "categoryset")) (next (word 13 (codes "c")) (next (list 15 (next (word 16 (codes "range")) (next (word 22 (codes "a")) (next (word 24 (codes "b")) none)))) none)))) ≡ [])
 unfolding verdict_of cells_of cell_of read_row read_word read_string read_list rules containers types classes levels entry_of set_aside_words later_words left_out_words heads first_words begins_with
 sets_3 = (refl, refl, refl, refl, refl, refl, refl, refl)
 
@@ -105,12 +94,12 @@ sets_3 = (refl, refl, refl, refl, refl, refl, refl, refl)
 -- `(sensitivitycategory s all)`
 -- `(allow a b (file (not read)))`
 -- `(allow a b (file (all)))`
-pub sets_4 : (found_as keywords.CategorySet (list 0 (next (word 1 (codes "categoryset")) (next (word 13 (codes "c")) (next (list 15 (next (word 16 (codes "range")) (next (word 22 (codes "a")) none))) none)))) ≡ fault causes.BadShape 0 (codes "categoryset") ∷ [])
-    × (found_as keywords.CategorySet (list 0 (next (word 1 (codes "categoryset")) (next (word 13 (codes "c")) (next (list 15 (next (list 16 (next (word 17 (codes "range")) (next (word 23 (codes "a")) (next (word 25 (codes "b")) none)))) (next (word 28 (codes "d")) (next (list 30 (next (word 31 (codes "not")) (next (word 35 (codes "all")) none))) none)))) none)))) ≡ [])
-    × (found_as keywords.CategorySet (list 0 (next (word 1 (codes "categoryset")) (next (word 13 (codes "c")) (next (list 15 (next (word 16 (codes "range")) (next (word 22 (codes "a")) (next (list 24 (next (word 25 (codes "b")) none)) none)))) none)))) ≡ fault causes.BadShape 0 (codes "categoryset") ∷ [])
-    × (found_as keywords.CategorySet (list 0 (next (word 1 (codes "categoryset")) (next (word 13 (codes "c")) (next (list 15 (next (word 16 (codes "range")) (next (word 22 (codes "all")) (next (word 26 (codes "b")) none)))) none)))) ≡ fault causes.ReservedName 22 (codes "all") ∷ [])
-    × (found_as keywords.SensitivityCategory (list 0 (next (word 1 (codes "sensitivitycategory")) (next (word 21 (codes "s")) (next (list 23 (next (word 24 (codes "and")) (next (word 28 (codes "all")) (next (list 32 (next (word 33 (codes "range")) (next (word 39 (codes "x")) (next (word 41 (codes "y")) none)))) none)))) none)))) ≡ [])
-    × (found_as keywords.SensitivityCategory (list 0 (next (word 1 (codes "sensitivitycategory")) (next (word 21 (codes "s")) (next (word 23 (codes "all")) none)))) ≡ [])
+pub sets_4 : (found (list 0 (next (word 1 (codes "categoryset")) (next (word 13 (codes "c")) (next (list 15 (next (word 16 (codes "range")) (next (word 22 (codes "a")) none))) none)))) ≡ fault causes.BadShape 0 (codes "categoryset") ∷ [])
+    × (found (list 0 (next (word 1 (codes "categoryset")) (next (word 13 (codes "c")) (next (list 15 (next (list 16 (next (word 17 (codes "range")) (next (word 23 (codes "a")) (next (word 25 (codes "b")) none)))) (next (word 28 (codes "d")) (next (list 30 (next (word 31 (codes "not")) (next (word 35 (codes "all")) none))) none)))) none)))) ≡ [])
+    × (found (list 0 (next (word 1 (codes "categoryset")) (next (word 13 (codes "c")) (next (list 15 (next (word 16 (codes "range")) (next (word 22 (codes "a")) (next (list 24 (next (word 25 (codes "b")) none)) none)))) none)))) ≡ fault causes.BadShape 0 (codes "categoryset") ∷ [])
+    × (found (list 0 (next (word 1 (codes "categoryset")) (next (word 13 (codes "c")) (next (list 15 (next (word 16 (codes "range")) (next (word 22 (codes "all")) (next (word 26 (codes "b")) none)))) none)))) ≡ fault causes.ReservedName 22 (codes "all") ∷ [])
+    × (found (list 0 (next (word 1 (codes "sensitivitycategory")) (next (word 21 (codes "s")) (next (list 23 (next (word 24 (codes "and")) (next (word 28 (codes "all")) (next (list 32 (next (word 33 (codes "range")) (next (word 39 (codes "x")) (next (word 41 (codes "y")) none)))) none)))) none)))) ≡ [])
+    × (found (list 0 (next (word 1 (codes "sensitivitycategory")) (next (word 21 (codes "s")) (next (word 23 (codes "all")) none)))) ≡ [])
     × (found (list 0 (next (word 1 (codes "allow")) (next (word 7 (codes "a")) (next (word 9 (codes "b")) (next (list 11 (next (word 12 (codes "file")) (next (list 17 (next (word 18 (codes "not")) (next (word 22 (codes "read")) none))) none))) none))))) ≡ [])
     × (found (list 0 (next (word 1 (codes "allow")) (next (word 7 (codes "a")) (next (word 9 (codes "b")) (next (list 11 (next (word 12 (codes "file")) (next (list 17 (next (word 18 (codes "all")) none)) none))) none))))) ≡ [])
 unfolding verdict_of cells_of cell_of read_row read_word read_string read_list rules containers types classes levels entry_of set_aside_words later_words left_out_words heads first_words begins_with
@@ -226,8 +215,8 @@ conditions_4 = (refl, refl, refl, refl, refl, refl, refl, refl)
 pub conditions_5 : (found (list 0 (next (word 1 (codes "boolean")) (next (word 9 (codes "b")) (next (word 11 (codes "yes")) none)))) ≡ fault causes.BadShape 0 (codes "boolean") ∷ [])
     × (found (list 0 (next (word 1 (codes "boolean")) (next (word 9 (codes "b")) none))) ≡ fault causes.BadShape 0 (codes "boolean") ∷ [])
     × (found (list 0 (next (word 1 (codes "boolean")) (next (word 9 (codes "true")) (next (word 14 (codes "false")) none)))) ≡ fault causes.ReservedName 9 (codes "true") ∷ [])
-    × (found_as keywords.Mls (list 0 (next (word 1 (codes "mls")) (next (word 5 (codes "true")) none))) ≡ [])
-    × (found_as keywords.Mls (list 0 (next (word 1 (codes "mls")) (next (word 5 (codes "maybe")) none))) ≡ fault causes.BadShape 0 (codes "mls") ∷ [])
+    × (found (list 0 (next (word 1 (codes "mls")) (next (word 5 (codes "true")) none))) ≡ [])
+    × (found (list 0 (next (word 1 (codes "mls")) (next (word 5 (codes "maybe")) none))) ≡ fault causes.BadShape 0 (codes "mls") ∷ [])
 unfolding verdict_of cells_of cell_of read_row read_word read_string read_list rules containers types classes levels entry_of set_aside_words later_words left_out_words heads first_words begins_with
 conditions_5 = (refl, refl, refl, refl, refl)
 
@@ -239,14 +228,14 @@ conditions_5 = (refl, refl, refl, refl, refl)
 -- `(constrain (c (p)) (neq r2 r))`
 -- `(constrain (c (p)) (eq t2 (a)))`
 -- `(constrain (c (p)) (eq t2 ()))`
-pub constraints_1 : (found_as keywords.Constrain (list 0 (next (word 1 (codes "constrain")) (next (list 11 (next (word 12 (codes "c")) (next (list 14 (next (word 15 (codes "p")) none)) none))) (next (list 19 (next (word 20 (codes "eq")) (next (word 23 (codes "u1")) (next (word 26 (codes "u2")) none)))) none)))) ≡ [])
-    × (found_as keywords.Constrain (list 0 (next (word 1 (codes "constrain")) (next (list 11 (next (word 12 (codes "c")) (next (list 14 (next (word 15 (codes "p")) none)) none))) (next (list 19 (next (word 20 (codes "neq")) (next (word 24 (codes "r1")) (next (word 27 (codes "r2")) none)))) none)))) ≡ [])
-    × (found_as keywords.Constrain (list 0 (next (word 1 (codes "constrain")) (next (list 11 (next (word 12 (codes "c")) (next (list 14 (next (word 15 (codes "p")) none)) none))) (next (list 19 (next (word 20 (codes "eq")) (next (word 23 (codes "t1")) (next (word 26 (codes "t2")) none)))) none)))) ≡ [])
-    × (found_as keywords.Constrain (list 0 (next (word 1 (codes "constrain")) (next (list 11 (next (word 12 (codes "c")) (next (list 14 (next (word 15 (codes "p")) none)) none))) (next (list 19 (next (word 20 (codes "eq")) (next (word 23 (codes "u1")) (next (word 26 (codes "x")) none)))) none)))) ≡ [])
-    × (found_as keywords.Constrain (list 0 (next (word 1 (codes "constrain")) (next (list 11 (next (word 12 (codes "c")) (next (list 14 (next (word 15 (codes "p")) none)) none))) (next (list 19 (next (word 20 (codes "eq")) (next (word 23 (codes "u2")) (next (list 26 (next (word 27 (codes "x")) (next (word 29 (codes "y")) none))) none)))) none)))) ≡ [])
-    × (found_as keywords.Constrain (list 0 (next (word 1 (codes "constrain")) (next (list 11 (next (word 12 (codes "c")) (next (list 14 (next (word 15 (codes "p")) none)) none))) (next (list 19 (next (word 20 (codes "neq")) (next (word 24 (codes "r2")) (next (word 27 (codes "r")) none)))) none)))) ≡ [])
-    × (found_as keywords.Constrain (list 0 (next (word 1 (codes "constrain")) (next (list 11 (next (word 12 (codes "c")) (next (list 14 (next (word 15 (codes "p")) none)) none))) (next (list 19 (next (word 20 (codes "eq")) (next (word 23 (codes "t2")) (next (list 26 (next (word 27 (codes "a")) none)) none)))) none)))) ≡ [])
-    × (found_as keywords.Constrain (list 0 (next (word 1 (codes "constrain")) (next (list 11 (next (word 12 (codes "c")) (next (list 14 (next (word 15 (codes "p")) none)) none))) (next (list 19 (next (word 20 (codes "eq")) (next (word 23 (codes "t2")) (next (list 26 none) none)))) none)))) ≡ fault causes.BadShape 0 (codes "constrain") ∷ [])
+pub constraints_1 : (found (list 0 (next (word 1 (codes "constrain")) (next (list 11 (next (word 12 (codes "c")) (next (list 14 (next (word 15 (codes "p")) none)) none))) (next (list 19 (next (word 20 (codes "eq")) (next (word 23 (codes "u1")) (next (word 26 (codes "u2")) none)))) none)))) ≡ [])
+    × (found (list 0 (next (word 1 (codes "constrain")) (next (list 11 (next (word 12 (codes "c")) (next (list 14 (next (word 15 (codes "p")) none)) none))) (next (list 19 (next (word 20 (codes "neq")) (next (word 24 (codes "r1")) (next (word 27 (codes "r2")) none)))) none)))) ≡ [])
+    × (found (list 0 (next (word 1 (codes "constrain")) (next (list 11 (next (word 12 (codes "c")) (next (list 14 (next (word 15 (codes "p")) none)) none))) (next (list 19 (next (word 20 (codes "eq")) (next (word 23 (codes "t1")) (next (word 26 (codes "t2")) none)))) none)))) ≡ [])
+    × (found (list 0 (next (word 1 (codes "constrain")) (next (list 11 (next (word 12 (codes "c")) (next (list 14 (next (word 15 (codes "p")) none)) none))) (next (list 19 (next (word 20 (codes "eq")) (next (word 23 (codes "u1")) (next (word 26 (codes "x")) none)))) none)))) ≡ [])
+    × (found (list 0 (next (word 1 (codes "constrain")) (next (list 11 (next (word 12 (codes "c")) (next (list 14 (next (word 15 (codes "p")) none)) none))) (next (list 19 (next (word 20 (codes "eq")) (next (word 23 (codes "u2")) (next (list 26 (next (word 27 (codes "x")) (next (word 29 (codes "y")) none))) none)))) none)))) ≡ [])
+    × (found (list 0 (next (word 1 (codes "constrain")) (next (list 11 (next (word 12 (codes "c")) (next (list 14 (next (word 15 (codes "p")) none)) none))) (next (list 19 (next (word 20 (codes "neq")) (next (word 24 (codes "r2")) (next (word 27 (codes "r")) none)))) none)))) ≡ [])
+    × (found (list 0 (next (word 1 (codes "constrain")) (next (list 11 (next (word 12 (codes "c")) (next (list 14 (next (word 15 (codes "p")) none)) none))) (next (list 19 (next (word 20 (codes "eq")) (next (word 23 (codes "t2")) (next (list 26 (next (word 27 (codes "a")) none)) none)))) none)))) ≡ [])
+    × (found (list 0 (next (word 1 (codes "constrain")) (next (list 11 (next (word 12 (codes "c")) (next (list 14 (next (word 15 (codes "p")) none)) none))) (next (list 19 (next (word 20 (codes "eq")) (next (word 23 (codes "t2")) (next (list 26 none) none)))) none)))) ≡ fault causes.BadShape 0 (codes "constrain") ∷ [])
 unfolding verdict_of cells_of cell_of read_row read_word read_string read_list rules containers types classes levels entry_of set_aside_words later_words left_out_words heads first_words begins_with
 constraints_1 = (refl, refl, refl, refl, refl, refl, refl, refl)
 
@@ -258,14 +247,14 @@ constraints_1 = (refl, refl, refl, refl, refl, refl, refl, refl)
 -- `(constrain (c (p)) (eq u2 u1))`
 -- `(constrain (c (p)) (eq x u1))`
 -- `(constrain (c (p)) (eq u1))`
-pub constraints_2 : (found_as keywords.Constrain (list 0 (next (word 1 (codes "constrain")) (next (list 11 (next (word 12 (codes "c")) (next (list 14 (next (word 15 (codes "p")) none)) none))) (next (list 19 (next (word 20 (codes "eq")) (next (word 23 (codes "u1")) (next (word 26 (codes "u1")) none)))) none)))) ≡ fault causes.ReservedName 26 (codes "u1") ∷ [])
-    × (found_as keywords.Constrain (list 0 (next (word 1 (codes "constrain")) (next (list 11 (next (word 12 (codes "c")) (next (list 14 (next (word 15 (codes "p")) none)) none))) (next (list 19 (next (word 20 (codes "eq")) (next (word 23 (codes "t2")) (next (word 26 (codes "t1")) none)))) none)))) ≡ fault causes.ReservedName 26 (codes "t1") ∷ [])
-    × (found_as keywords.Constrain (list 0 (next (word 1 (codes "constrain")) (next (list 11 (next (word 12 (codes "c")) (next (list 14 (next (word 15 (codes "p")) none)) none))) (next (list 19 (next (word 20 (codes "eq")) (next (word 23 (codes "t1")) (next (word 26 (codes "l1")) none)))) none)))) ≡ fault causes.ReservedName 26 (codes "l1") ∷ [])
-    × (found_as keywords.Constrain (list 0 (next (word 1 (codes "constrain")) (next (list 11 (next (word 12 (codes "c")) (next (list 14 (next (word 15 (codes "p")) none)) none))) (next (list 19 (next (word 20 (codes "eq")) (next (word 23 (codes "t1")) (next (list 26 (next (word 27 (codes "a")) (next (list 29 (next (word 30 (codes "b")) none)) none))) none)))) none)))) ≡ fault causes.BadShape 0 (codes "constrain") ∷ [])
-    × (found_as keywords.Constrain (list 0 (next (word 1 (codes "constrain")) (next (list 11 (next (word 12 (codes "c")) (next (list 14 (next (word 15 (codes "p")) none)) none))) (next (list 19 (next (word 20 (codes "eq")) (next (word 23 (codes "t1")) (next (list 26 (next (word 27 (codes "not")) (next (word 31 (codes "a")) none))) none)))) none)))) ≡ fault causes.ReservedName 27 (codes "not") ∷ [])
-    × (found_as keywords.Constrain (list 0 (next (word 1 (codes "constrain")) (next (list 11 (next (word 12 (codes "c")) (next (list 14 (next (word 15 (codes "p")) none)) none))) (next (list 19 (next (word 20 (codes "eq")) (next (word 23 (codes "u2")) (next (word 26 (codes "u1")) none)))) none)))) ≡ fault causes.ReservedName 26 (codes "u1") ∷ [])
-    × (found_as keywords.Constrain (list 0 (next (word 1 (codes "constrain")) (next (list 11 (next (word 12 (codes "c")) (next (list 14 (next (word 15 (codes "p")) none)) none))) (next (list 19 (next (word 20 (codes "eq")) (next (word 23 (codes "x")) (next (word 25 (codes "u1")) none)))) none)))) ≡ fault causes.BadShape 0 (codes "constrain") ∷ [])
-    × (found_as keywords.Constrain (list 0 (next (word 1 (codes "constrain")) (next (list 11 (next (word 12 (codes "c")) (next (list 14 (next (word 15 (codes "p")) none)) none))) (next (list 19 (next (word 20 (codes "eq")) (next (word 23 (codes "u1")) none))) none)))) ≡ fault causes.BadShape 0 (codes "constrain") ∷ [])
+pub constraints_2 : (found (list 0 (next (word 1 (codes "constrain")) (next (list 11 (next (word 12 (codes "c")) (next (list 14 (next (word 15 (codes "p")) none)) none))) (next (list 19 (next (word 20 (codes "eq")) (next (word 23 (codes "u1")) (next (word 26 (codes "u1")) none)))) none)))) ≡ fault causes.ReservedName 26 (codes "u1") ∷ [])
+    × (found (list 0 (next (word 1 (codes "constrain")) (next (list 11 (next (word 12 (codes "c")) (next (list 14 (next (word 15 (codes "p")) none)) none))) (next (list 19 (next (word 20 (codes "eq")) (next (word 23 (codes "t2")) (next (word 26 (codes "t1")) none)))) none)))) ≡ fault causes.ReservedName 26 (codes "t1") ∷ [])
+    × (found (list 0 (next (word 1 (codes "constrain")) (next (list 11 (next (word 12 (codes "c")) (next (list 14 (next (word 15 (codes "p")) none)) none))) (next (list 19 (next (word 20 (codes "eq")) (next (word 23 (codes "t1")) (next (word 26 (codes "l1")) none)))) none)))) ≡ fault causes.ReservedName 26 (codes "l1") ∷ [])
+    × (found (list 0 (next (word 1 (codes "constrain")) (next (list 11 (next (word 12 (codes "c")) (next (list 14 (next (word 15 (codes "p")) none)) none))) (next (list 19 (next (word 20 (codes "eq")) (next (word 23 (codes "t1")) (next (list 26 (next (word 27 (codes "a")) (next (list 29 (next (word 30 (codes "b")) none)) none))) none)))) none)))) ≡ fault causes.BadShape 0 (codes "constrain") ∷ [])
+    × (found (list 0 (next (word 1 (codes "constrain")) (next (list 11 (next (word 12 (codes "c")) (next (list 14 (next (word 15 (codes "p")) none)) none))) (next (list 19 (next (word 20 (codes "eq")) (next (word 23 (codes "t1")) (next (list 26 (next (word 27 (codes "not")) (next (word 31 (codes "a")) none))) none)))) none)))) ≡ fault causes.ReservedName 27 (codes "not") ∷ [])
+    × (found (list 0 (next (word 1 (codes "constrain")) (next (list 11 (next (word 12 (codes "c")) (next (list 14 (next (word 15 (codes "p")) none)) none))) (next (list 19 (next (word 20 (codes "eq")) (next (word 23 (codes "u2")) (next (word 26 (codes "u1")) none)))) none)))) ≡ fault causes.ReservedName 26 (codes "u1") ∷ [])
+    × (found (list 0 (next (word 1 (codes "constrain")) (next (list 11 (next (word 12 (codes "c")) (next (list 14 (next (word 15 (codes "p")) none)) none))) (next (list 19 (next (word 20 (codes "eq")) (next (word 23 (codes "x")) (next (word 25 (codes "u1")) none)))) none)))) ≡ fault causes.BadShape 0 (codes "constrain") ∷ [])
+    × (found (list 0 (next (word 1 (codes "constrain")) (next (list 11 (next (word 12 (codes "c")) (next (list 14 (next (word 15 (codes "p")) none)) none))) (next (list 19 (next (word 20 (codes "eq")) (next (word 23 (codes "u1")) none))) none)))) ≡ fault causes.BadShape 0 (codes "constrain") ∷ [])
 unfolding verdict_of cells_of cell_of read_row read_word read_string read_list rules containers types classes levels entry_of set_aside_words later_words left_out_words heads first_words begins_with
 constraints_2 = (refl, refl, refl, refl, refl, refl, refl, refl)
 
@@ -277,14 +266,14 @@ constraints_2 = (refl, refl, refl, refl, refl, refl, refl, refl)
 -- `(constrain (c (p)) (or (eq u1 u2)))`
 -- `(constrain (c (p)) ((eq u1 u2)))`
 -- `(constrain (c (p)) (((eq u1 u2))))`
-pub constraints_3 : (found_as keywords.Constrain (list 0 (next (word 1 (codes "constrain")) (next (list 11 (next (word 12 (codes "c")) (next (list 14 (next (word 15 (codes "p")) none)) none))) (next (list 19 (next (word 20 (codes "eq")) none)) none)))) ≡ fault causes.BadShape 0 (codes "constrain") ∷ [])
-    × (found_as keywords.Constrain (list 0 (next (word 1 (codes "constrain")) (next (list 11 (next (word 12 (codes "c")) (next (list 14 (next (word 15 (codes "p")) none)) none))) (next (list 19 (next (word 20 (codes "eq")) (next (word 23 (codes "u1")) (next (word 26 (codes "u2")) (next (word 29 (codes "u2")) none))))) none)))) ≡ fault causes.BadShape 0 (codes "constrain") ∷ [])
-    × (found_as keywords.Constrain (list 0 (next (word 1 (codes "constrain")) (next (list 11 (next (word 12 (codes "c")) (next (list 14 (next (word 15 (codes "p")) none)) none))) (next (list 19 (next (word 20 (codes "eq")) (next (word 23 (codes "l1")) (next (word 26 (codes "l2")) none)))) none)))) ≡ fault causes.BadShape 0 (codes "constrain") ∷ [])
-    × (found_as keywords.Constrain (list 0 (next (word 1 (codes "constrain")) (next (list 11 (next (word 12 (codes "c")) (next (list 14 (next (word 15 (codes "p")) none)) none))) (next (list 19 (next (word 20 (codes "eq")) (next (word 23 (codes "l2")) (next (word 26 (codes "l1")) none)))) none)))) ≡ fault causes.BadShape 0 (codes "constrain") ∷ [])
-    × (found_as keywords.Constrain (list 0 (next (word 1 (codes "constrain")) (next (list 11 (next (word 12 (codes "c")) (next (list 14 (next (word 15 (codes "p")) none)) none))) (next (list 19 (next (word 20 (codes "and")) (next (list 24 (next (word 25 (codes "eq")) (next (word 28 (codes "u1")) (next (word 31 (codes "u2")) none)))) (next (list 35 (next (word 36 (codes "not")) (next (list 40 (next (word 41 (codes "eq")) (next (word 44 (codes "r1")) (next (word 47 (codes "r2")) none)))) none))) none)))) none)))) ≡ [])
-    × (found_as keywords.Constrain (list 0 (next (word 1 (codes "constrain")) (next (list 11 (next (word 12 (codes "c")) (next (list 14 (next (word 15 (codes "p")) none)) none))) (next (list 19 (next (word 20 (codes "or")) (next (list 23 (next (word 24 (codes "eq")) (next (word 27 (codes "u1")) (next (word 30 (codes "u2")) none)))) none))) none)))) ≡ fault causes.BadShape 0 (codes "constrain") ∷ [])
-    × (found_as keywords.Constrain (list 0 (next (word 1 (codes "constrain")) (next (list 11 (next (word 12 (codes "c")) (next (list 14 (next (word 15 (codes "p")) none)) none))) (next (list 19 (next (list 20 (next (word 21 (codes "eq")) (next (word 24 (codes "u1")) (next (word 27 (codes "u2")) none)))) none)) none)))) ≡ [])
-    × (found_as keywords.Constrain (list 0 (next (word 1 (codes "constrain")) (next (list 11 (next (word 12 (codes "c")) (next (list 14 (next (word 15 (codes "p")) none)) none))) (next (list 19 (next (list 20 (next (list 21 (next (word 22 (codes "eq")) (next (word 25 (codes "u1")) (next (word 28 (codes "u2")) none)))) none)) none)) none)))) ≡ [])
+pub constraints_3 : (found (list 0 (next (word 1 (codes "constrain")) (next (list 11 (next (word 12 (codes "c")) (next (list 14 (next (word 15 (codes "p")) none)) none))) (next (list 19 (next (word 20 (codes "eq")) none)) none)))) ≡ fault causes.BadShape 0 (codes "constrain") ∷ [])
+    × (found (list 0 (next (word 1 (codes "constrain")) (next (list 11 (next (word 12 (codes "c")) (next (list 14 (next (word 15 (codes "p")) none)) none))) (next (list 19 (next (word 20 (codes "eq")) (next (word 23 (codes "u1")) (next (word 26 (codes "u2")) (next (word 29 (codes "u2")) none))))) none)))) ≡ fault causes.BadShape 0 (codes "constrain") ∷ [])
+    × (found (list 0 (next (word 1 (codes "constrain")) (next (list 11 (next (word 12 (codes "c")) (next (list 14 (next (word 15 (codes "p")) none)) none))) (next (list 19 (next (word 20 (codes "eq")) (next (word 23 (codes "l1")) (next (word 26 (codes "l2")) none)))) none)))) ≡ fault causes.BadShape 0 (codes "constrain") ∷ [])
+    × (found (list 0 (next (word 1 (codes "constrain")) (next (list 11 (next (word 12 (codes "c")) (next (list 14 (next (word 15 (codes "p")) none)) none))) (next (list 19 (next (word 20 (codes "eq")) (next (word 23 (codes "l2")) (next (word 26 (codes "l1")) none)))) none)))) ≡ fault causes.BadShape 0 (codes "constrain") ∷ [])
+    × (found (list 0 (next (word 1 (codes "constrain")) (next (list 11 (next (word 12 (codes "c")) (next (list 14 (next (word 15 (codes "p")) none)) none))) (next (list 19 (next (word 20 (codes "and")) (next (list 24 (next (word 25 (codes "eq")) (next (word 28 (codes "u1")) (next (word 31 (codes "u2")) none)))) (next (list 35 (next (word 36 (codes "not")) (next (list 40 (next (word 41 (codes "eq")) (next (word 44 (codes "r1")) (next (word 47 (codes "r2")) none)))) none))) none)))) none)))) ≡ [])
+    × (found (list 0 (next (word 1 (codes "constrain")) (next (list 11 (next (word 12 (codes "c")) (next (list 14 (next (word 15 (codes "p")) none)) none))) (next (list 19 (next (word 20 (codes "or")) (next (list 23 (next (word 24 (codes "eq")) (next (word 27 (codes "u1")) (next (word 30 (codes "u2")) none)))) none))) none)))) ≡ fault causes.BadShape 0 (codes "constrain") ∷ [])
+    × (found (list 0 (next (word 1 (codes "constrain")) (next (list 11 (next (word 12 (codes "c")) (next (list 14 (next (word 15 (codes "p")) none)) none))) (next (list 19 (next (list 20 (next (word 21 (codes "eq")) (next (word 24 (codes "u1")) (next (word 27 (codes "u2")) none)))) none)) none)))) ≡ [])
+    × (found (list 0 (next (word 1 (codes "constrain")) (next (list 11 (next (word 12 (codes "c")) (next (list 14 (next (word 15 (codes "p")) none)) none))) (next (list 19 (next (list 20 (next (list 21 (next (word 22 (codes "eq")) (next (word 25 (codes "u1")) (next (word 28 (codes "u2")) none)))) none)) none)) none)))) ≡ [])
 unfolding verdict_of cells_of cell_of read_row read_word read_string read_list rules containers types classes levels entry_of set_aside_words later_words left_out_words heads first_words begins_with
 constraints_3 = (refl, refl, refl, refl, refl, refl, refl, refl)
 
@@ -296,14 +285,14 @@ constraints_3 = (refl, refl, refl, refl, refl, refl, refl, refl)
 -- `(constrain (c (p)) (incomp r1 r2))`
 -- `(constrain (c (p)) (dom r2 r1))`
 -- `(constrain (c (p)) (dom r1 x))`
-pub constraints_4 : (found_as keywords.Constrain (list 0 (next (word 1 (codes "constrain")) (next (list 11 (next (word 12 (codes "c")) (next (list 14 (next (word 15 (codes "p")) none)) none))) (next (list 19 none) none)))) ≡ fault causes.BadShape 0 (codes "constrain") ∷ [])
-    × (found_as keywords.Constrain (list 0 (next (word 1 (codes "constrain")) (next (list 11 (next (word 12 (codes "c")) (next (list 14 (next (word 15 (codes "p")) none)) none))) (next (word 19 (codes "u1")) none)))) ≡ fault causes.BadShape 0 (codes "constrain") ∷ [])
-    × (found_as keywords.Constrain (list 0 (next (word 1 (codes "constrain")) (next (list 11 (next (word 12 (codes "c")) (next (list 14 (next (word 15 (codes "p")) none)) none))) (next (list 19 (next (word 20 (codes "xor")) (next (list 24 (next (word 25 (codes "eq")) (next (word 28 (codes "u1")) (next (word 31 (codes "u2")) none)))) (next (list 35 (next (word 36 (codes "eq")) (next (word 39 (codes "u1")) (next (word 42 (codes "u2")) none)))) none)))) none)))) ≡ fault causes.BadShape 0 (codes "constrain") ∷ [])
-    × (found_as keywords.Constrain (list 0 (next (word 1 (codes "constrain")) (next (list 11 (next (word 12 (codes "c")) (next (list 14 (next (word 15 (codes "p")) none)) none))) (next (list 19 (next (word 20 (codes "dom")) (next (word 24 (codes "r1")) (next (word 27 (codes "r2")) none)))) none)))) ≡ fault causes.Unsupported 20 (codes "dom") ∷ [])
-    × (found_as keywords.Constrain (list 0 (next (word 1 (codes "constrain")) (next (list 11 (next (word 12 (codes "c")) (next (list 14 (next (word 15 (codes "p")) none)) none))) (next (list 19 (next (word 20 (codes "and")) (next (list 24 (next (word 25 (codes "domby")) (next (word 31 (codes "r1")) (next (word 34 (codes "r2")) none)))) (next (list 38 (next (word 39 (codes "eq")) (next (word 42 (codes "u1")) (next (word 45 (codes "1x")) none)))) none)))) none)))) ≡ fault causes.Unsupported 25 (codes "domby") ∷ fault causes.BadName 45 (codes "1x") ∷ [])
-    × (found_as keywords.Constrain (list 0 (next (word 1 (codes "constrain")) (next (list 11 (next (word 12 (codes "c")) (next (list 14 (next (word 15 (codes "p")) none)) none))) (next (list 19 (next (word 20 (codes "incomp")) (next (word 27 (codes "r1")) (next (word 30 (codes "r2")) none)))) none)))) ≡ fault causes.Unsupported 20 (codes "incomp") ∷ [])
-    × (found_as keywords.Constrain (list 0 (next (word 1 (codes "constrain")) (next (list 11 (next (word 12 (codes "c")) (next (list 14 (next (word 15 (codes "p")) none)) none))) (next (list 19 (next (word 20 (codes "dom")) (next (word 24 (codes "r2")) (next (word 27 (codes "r1")) none)))) none)))) ≡ fault causes.BadShape 0 (codes "constrain") ∷ [])
-    × (found_as keywords.Constrain (list 0 (next (word 1 (codes "constrain")) (next (list 11 (next (word 12 (codes "c")) (next (list 14 (next (word 15 (codes "p")) none)) none))) (next (list 19 (next (word 20 (codes "dom")) (next (word 24 (codes "r1")) (next (word 27 (codes "x")) none)))) none)))) ≡ fault causes.BadShape 0 (codes "constrain") ∷ [])
+pub constraints_4 : (found (list 0 (next (word 1 (codes "constrain")) (next (list 11 (next (word 12 (codes "c")) (next (list 14 (next (word 15 (codes "p")) none)) none))) (next (list 19 none) none)))) ≡ fault causes.BadShape 0 (codes "constrain") ∷ [])
+    × (found (list 0 (next (word 1 (codes "constrain")) (next (list 11 (next (word 12 (codes "c")) (next (list 14 (next (word 15 (codes "p")) none)) none))) (next (word 19 (codes "u1")) none)))) ≡ fault causes.BadShape 0 (codes "constrain") ∷ [])
+    × (found (list 0 (next (word 1 (codes "constrain")) (next (list 11 (next (word 12 (codes "c")) (next (list 14 (next (word 15 (codes "p")) none)) none))) (next (list 19 (next (word 20 (codes "xor")) (next (list 24 (next (word 25 (codes "eq")) (next (word 28 (codes "u1")) (next (word 31 (codes "u2")) none)))) (next (list 35 (next (word 36 (codes "eq")) (next (word 39 (codes "u1")) (next (word 42 (codes "u2")) none)))) none)))) none)))) ≡ fault causes.BadShape 0 (codes "constrain") ∷ [])
+    × (found (list 0 (next (word 1 (codes "constrain")) (next (list 11 (next (word 12 (codes "c")) (next (list 14 (next (word 15 (codes "p")) none)) none))) (next (list 19 (next (word 20 (codes "dom")) (next (word 24 (codes "r1")) (next (word 27 (codes "r2")) none)))) none)))) ≡ fault causes.Unsupported 20 (codes "dom") ∷ [])
+    × (found (list 0 (next (word 1 (codes "constrain")) (next (list 11 (next (word 12 (codes "c")) (next (list 14 (next (word 15 (codes "p")) none)) none))) (next (list 19 (next (word 20 (codes "and")) (next (list 24 (next (word 25 (codes "domby")) (next (word 31 (codes "r1")) (next (word 34 (codes "r2")) none)))) (next (list 38 (next (word 39 (codes "eq")) (next (word 42 (codes "u1")) (next (word 45 (codes "1x")) none)))) none)))) none)))) ≡ fault causes.Unsupported 25 (codes "domby") ∷ fault causes.BadName 45 (codes "1x") ∷ [])
+    × (found (list 0 (next (word 1 (codes "constrain")) (next (list 11 (next (word 12 (codes "c")) (next (list 14 (next (word 15 (codes "p")) none)) none))) (next (list 19 (next (word 20 (codes "incomp")) (next (word 27 (codes "r1")) (next (word 30 (codes "r2")) none)))) none)))) ≡ fault causes.Unsupported 20 (codes "incomp") ∷ [])
+    × (found (list 0 (next (word 1 (codes "constrain")) (next (list 11 (next (word 12 (codes "c")) (next (list 14 (next (word 15 (codes "p")) none)) none))) (next (list 19 (next (word 20 (codes "dom")) (next (word 24 (codes "r2")) (next (word 27 (codes "r1")) none)))) none)))) ≡ fault causes.BadShape 0 (codes "constrain") ∷ [])
+    × (found (list 0 (next (word 1 (codes "constrain")) (next (list 11 (next (word 12 (codes "c")) (next (list 14 (next (word 15 (codes "p")) none)) none))) (next (list 19 (next (word 20 (codes "dom")) (next (word 24 (codes "r1")) (next (word 27 (codes "x")) none)))) none)))) ≡ fault causes.BadShape 0 (codes "constrain") ∷ [])
 unfolding verdict_of cells_of cell_of read_row read_word read_string read_list rules containers types classes levels entry_of set_aside_words later_words left_out_words heads first_words begins_with
 constraints_4 = (refl, refl, refl, refl, refl, refl, refl, refl)
 
@@ -315,14 +304,14 @@ constraints_4 = (refl, refl, refl, refl, refl, refl, refl, refl)
 -- `(mlsconstrain (c (p)) (dom l1 l2))`
 -- `(mlsconstrain (c (p)) (domby l1 h2))`
 -- `(mlsconstrain (c (p)) (incomp h1 l2))`
-pub constraints_5 : (found_as keywords.Constrain (list 0 (next (word 1 (codes "constrain")) (next (list 11 (next (word 12 (codes "c")) (next (list 14 (next (word 15 (codes "p")) none)) none))) (next (list 19 (next (word 20 (codes "dom")) (next (word 24 (codes "r1")) (next (word 27 (codes "r2")) (next (word 30 (codes "r2")) none))))) none)))) ≡ fault causes.BadShape 0 (codes "constrain") ∷ [])
-    × (found_as keywords.Constrain (list 0 (next (word 1 (codes "constrain")) (next (list 11 (next (word 12 (codes "c")) (next (list 14 (next (word 15 (codes "p")) none)) none))) (next (list 19 (next (word 20 (codes "dom")) (next (word 24 (codes "l1")) (next (word 27 (codes "l2")) none)))) none)))) ≡ fault causes.BadShape 0 (codes "constrain") ∷ [])
-    × (found_as keywords.Constrain (list 0 (next (word 1 (codes "constrain")) (next (list 11 (next (word 12 (codes "c")) (next (list 14 (next (word 15 (codes "p")) none)) none))) (next (list 19 (next (word 20 (codes "dom")) (next (word 24 (codes "u1")) (next (word 27 (codes "u2")) none)))) none)))) ≡ fault causes.BadShape 0 (codes "constrain") ∷ [])
-    × (found_as keywords.Constrain (list 0 (next (word 1 (codes "constrain")) (next (list 11 (next (word 12 (codes "c")) (next (list 14 (next (word 15 (codes "p")) none)) none))) (next (list 19 (next (word 20 (codes "eq")) (next (word 23 (codes "u1")) (next (Quoted (record { start = 26; end = 29 }) (34 ∷ 120 ∷ 34 ∷ [])) none)))) none)))) ≡ fault causes.BadShape 0 (codes "constrain") ∷ [])
-    × (found_as keywords.Constrain (list 0 (next (word 1 (codes "constrain")) (next (list 11 (next (word 12 (codes "c")) (next (list 14 (next (word 15 (codes "p")) none)) none))) (next (list 19 (next (Quoted (record { start = 20; end = 24 }) (34 ∷ 101 ∷ 113 ∷ 34 ∷ [])) (next (word 25 (codes "u1")) (next (word 28 (codes "u2")) none)))) none)))) ≡ fault causes.BadShape 0 (codes "constrain") ∷ [])
-    × (found_as keywords.MlsConstrain (list 0 (next (word 1 (codes "mlsconstrain")) (next (list 14 (next (word 15 (codes "c")) (next (list 17 (next (word 18 (codes "p")) none)) none))) (next (list 22 (next (word 23 (codes "dom")) (next (word 27 (codes "l1")) (next (word 30 (codes "l2")) none)))) none)))) ≡ [])
-    × (found_as keywords.MlsConstrain (list 0 (next (word 1 (codes "mlsconstrain")) (next (list 14 (next (word 15 (codes "c")) (next (list 17 (next (word 18 (codes "p")) none)) none))) (next (list 22 (next (word 23 (codes "domby")) (next (word 29 (codes "l1")) (next (word 32 (codes "h2")) none)))) none)))) ≡ [])
-    × (found_as keywords.MlsConstrain (list 0 (next (word 1 (codes "mlsconstrain")) (next (list 14 (next (word 15 (codes "c")) (next (list 17 (next (word 18 (codes "p")) none)) none))) (next (list 22 (next (word 23 (codes "incomp")) (next (word 30 (codes "h1")) (next (word 33 (codes "l2")) none)))) none)))) ≡ [])
+pub constraints_5 : (found (list 0 (next (word 1 (codes "constrain")) (next (list 11 (next (word 12 (codes "c")) (next (list 14 (next (word 15 (codes "p")) none)) none))) (next (list 19 (next (word 20 (codes "dom")) (next (word 24 (codes "r1")) (next (word 27 (codes "r2")) (next (word 30 (codes "r2")) none))))) none)))) ≡ fault causes.BadShape 0 (codes "constrain") ∷ [])
+    × (found (list 0 (next (word 1 (codes "constrain")) (next (list 11 (next (word 12 (codes "c")) (next (list 14 (next (word 15 (codes "p")) none)) none))) (next (list 19 (next (word 20 (codes "dom")) (next (word 24 (codes "l1")) (next (word 27 (codes "l2")) none)))) none)))) ≡ fault causes.BadShape 0 (codes "constrain") ∷ [])
+    × (found (list 0 (next (word 1 (codes "constrain")) (next (list 11 (next (word 12 (codes "c")) (next (list 14 (next (word 15 (codes "p")) none)) none))) (next (list 19 (next (word 20 (codes "dom")) (next (word 24 (codes "u1")) (next (word 27 (codes "u2")) none)))) none)))) ≡ fault causes.BadShape 0 (codes "constrain") ∷ [])
+    × (found (list 0 (next (word 1 (codes "constrain")) (next (list 11 (next (word 12 (codes "c")) (next (list 14 (next (word 15 (codes "p")) none)) none))) (next (list 19 (next (word 20 (codes "eq")) (next (word 23 (codes "u1")) (next (Quoted (record { start = 26; end = 29 }) (34 ∷ 120 ∷ 34 ∷ [])) none)))) none)))) ≡ fault causes.BadShape 0 (codes "constrain") ∷ [])
+    × (found (list 0 (next (word 1 (codes "constrain")) (next (list 11 (next (word 12 (codes "c")) (next (list 14 (next (word 15 (codes "p")) none)) none))) (next (list 19 (next (Quoted (record { start = 20; end = 24 }) (34 ∷ 101 ∷ 113 ∷ 34 ∷ [])) (next (word 25 (codes "u1")) (next (word 28 (codes "u2")) none)))) none)))) ≡ fault causes.BadShape 0 (codes "constrain") ∷ [])
+    × (found (list 0 (next (word 1 (codes "mlsconstrain")) (next (list 14 (next (word 15 (codes "c")) (next (list 17 (next (word 18 (codes "p")) none)) none))) (next (list 22 (next (word 23 (codes "dom")) (next (word 27 (codes "l1")) (next (word 30 (codes "l2")) none)))) none)))) ≡ [])
+    × (found (list 0 (next (word 1 (codes "mlsconstrain")) (next (list 14 (next (word 15 (codes "c")) (next (list 17 (next (word 18 (codes "p")) none)) none))) (next (list 22 (next (word 23 (codes "domby")) (next (word 29 (codes "l1")) (next (word 32 (codes "h2")) none)))) none)))) ≡ [])
+    × (found (list 0 (next (word 1 (codes "mlsconstrain")) (next (list 14 (next (word 15 (codes "c")) (next (list 17 (next (word 18 (codes "p")) none)) none))) (next (list 22 (next (word 23 (codes "incomp")) (next (word 30 (codes "h1")) (next (word 33 (codes "l2")) none)))) none)))) ≡ [])
 unfolding verdict_of cells_of cell_of read_row read_word read_string read_list rules containers types classes levels entry_of set_aside_words later_words left_out_words heads first_words begins_with
 constraints_5 = (refl, refl, refl, refl, refl, refl, refl, refl)
 
@@ -334,14 +323,14 @@ constraints_5 = (refl, refl, refl, refl, refl, refl, refl, refl)
 -- `(mlsconstrain (c (p)) (dom l2 h1))`
 -- `(mlsconstrain (c (p)) (dom h1 l1))`
 -- `(mlsconstrain (c (p)) (eq l1 t2))`
-pub constraints_6 : (found_as keywords.MlsConstrain (list 0 (next (word 1 (codes "mlsconstrain")) (next (list 14 (next (word 15 (codes "c")) (next (list 17 (next (word 18 (codes "p")) none)) none))) (next (list 22 (next (word 23 (codes "eq")) (next (word 26 (codes "h1")) (next (word 29 (codes "h2")) none)))) none)))) ≡ [])
-    × (found_as keywords.MlsConstrain (list 0 (next (word 1 (codes "mlsconstrain")) (next (list 14 (next (word 15 (codes "c")) (next (list 17 (next (word 18 (codes "p")) none)) none))) (next (list 22 (next (word 23 (codes "neq")) (next (word 27 (codes "l1")) (next (word 30 (codes "h1")) none)))) none)))) ≡ [])
-    × (found_as keywords.MlsConstrain (list 0 (next (word 1 (codes "mlsconstrain")) (next (list 14 (next (word 15 (codes "c")) (next (list 17 (next (word 18 (codes "p")) none)) none))) (next (list 22 (next (word 23 (codes "eq")) (next (word 26 (codes "l2")) (next (word 29 (codes "h2")) none)))) none)))) ≡ [])
-    × (found_as keywords.MlsConstrain (list 0 (next (word 1 (codes "mlsconstrain")) (next (list 14 (next (word 15 (codes "c")) (next (list 17 (next (word 18 (codes "p")) none)) none))) (next (list 22 (next (word 23 (codes "eq")) (next (word 26 (codes "l2")) (next (word 29 (codes "l1")) none)))) none)))) ≡ fault causes.BadShape 0 (codes "mlsconstrain") ∷ [])
-    × (found_as keywords.MlsConstrain (list 0 (next (word 1 (codes "mlsconstrain")) (next (list 14 (next (word 15 (codes "c")) (next (list 17 (next (word 18 (codes "p")) none)) none))) (next (list 22 (next (word 23 (codes "eq")) (next (word 26 (codes "h2")) (next (word 29 (codes "l2")) none)))) none)))) ≡ fault causes.BadShape 0 (codes "mlsconstrain") ∷ [])
-    × (found_as keywords.MlsConstrain (list 0 (next (word 1 (codes "mlsconstrain")) (next (list 14 (next (word 15 (codes "c")) (next (list 17 (next (word 18 (codes "p")) none)) none))) (next (list 22 (next (word 23 (codes "dom")) (next (word 27 (codes "l2")) (next (word 30 (codes "h1")) none)))) none)))) ≡ fault causes.BadShape 0 (codes "mlsconstrain") ∷ [])
-    × (found_as keywords.MlsConstrain (list 0 (next (word 1 (codes "mlsconstrain")) (next (list 14 (next (word 15 (codes "c")) (next (list 17 (next (word 18 (codes "p")) none)) none))) (next (list 22 (next (word 23 (codes "dom")) (next (word 27 (codes "h1")) (next (word 30 (codes "l1")) none)))) none)))) ≡ fault causes.BadShape 0 (codes "mlsconstrain") ∷ [])
-    × (found_as keywords.MlsConstrain (list 0 (next (word 1 (codes "mlsconstrain")) (next (list 14 (next (word 15 (codes "c")) (next (list 17 (next (word 18 (codes "p")) none)) none))) (next (list 22 (next (word 23 (codes "eq")) (next (word 26 (codes "l1")) (next (word 29 (codes "t2")) none)))) none)))) ≡ fault causes.BadShape 0 (codes "mlsconstrain") ∷ [])
+pub constraints_6 : (found (list 0 (next (word 1 (codes "mlsconstrain")) (next (list 14 (next (word 15 (codes "c")) (next (list 17 (next (word 18 (codes "p")) none)) none))) (next (list 22 (next (word 23 (codes "eq")) (next (word 26 (codes "h1")) (next (word 29 (codes "h2")) none)))) none)))) ≡ [])
+    × (found (list 0 (next (word 1 (codes "mlsconstrain")) (next (list 14 (next (word 15 (codes "c")) (next (list 17 (next (word 18 (codes "p")) none)) none))) (next (list 22 (next (word 23 (codes "neq")) (next (word 27 (codes "l1")) (next (word 30 (codes "h1")) none)))) none)))) ≡ [])
+    × (found (list 0 (next (word 1 (codes "mlsconstrain")) (next (list 14 (next (word 15 (codes "c")) (next (list 17 (next (word 18 (codes "p")) none)) none))) (next (list 22 (next (word 23 (codes "eq")) (next (word 26 (codes "l2")) (next (word 29 (codes "h2")) none)))) none)))) ≡ [])
+    × (found (list 0 (next (word 1 (codes "mlsconstrain")) (next (list 14 (next (word 15 (codes "c")) (next (list 17 (next (word 18 (codes "p")) none)) none))) (next (list 22 (next (word 23 (codes "eq")) (next (word 26 (codes "l2")) (next (word 29 (codes "l1")) none)))) none)))) ≡ fault causes.BadShape 0 (codes "mlsconstrain") ∷ [])
+    × (found (list 0 (next (word 1 (codes "mlsconstrain")) (next (list 14 (next (word 15 (codes "c")) (next (list 17 (next (word 18 (codes "p")) none)) none))) (next (list 22 (next (word 23 (codes "eq")) (next (word 26 (codes "h2")) (next (word 29 (codes "l2")) none)))) none)))) ≡ fault causes.BadShape 0 (codes "mlsconstrain") ∷ [])
+    × (found (list 0 (next (word 1 (codes "mlsconstrain")) (next (list 14 (next (word 15 (codes "c")) (next (list 17 (next (word 18 (codes "p")) none)) none))) (next (list 22 (next (word 23 (codes "dom")) (next (word 27 (codes "l2")) (next (word 30 (codes "h1")) none)))) none)))) ≡ fault causes.BadShape 0 (codes "mlsconstrain") ∷ [])
+    × (found (list 0 (next (word 1 (codes "mlsconstrain")) (next (list 14 (next (word 15 (codes "c")) (next (list 17 (next (word 18 (codes "p")) none)) none))) (next (list 22 (next (word 23 (codes "dom")) (next (word 27 (codes "h1")) (next (word 30 (codes "l1")) none)))) none)))) ≡ fault causes.BadShape 0 (codes "mlsconstrain") ∷ [])
+    × (found (list 0 (next (word 1 (codes "mlsconstrain")) (next (list 14 (next (word 15 (codes "c")) (next (list 17 (next (word 18 (codes "p")) none)) none))) (next (list 22 (next (word 23 (codes "eq")) (next (word 26 (codes "l1")) (next (word 29 (codes "t2")) none)))) none)))) ≡ fault causes.BadShape 0 (codes "mlsconstrain") ∷ [])
 unfolding verdict_of cells_of cell_of read_row read_word read_string read_list rules containers types classes levels entry_of set_aside_words later_words left_out_words heads first_words begins_with
 constraints_6 = (refl, refl, refl, refl, refl, refl, refl, refl)
 
@@ -351,12 +340,12 @@ constraints_6 = (refl, refl, refl, refl, refl, refl, refl, refl)
 -- `(mlsconstrain (c (p)) (or (eq t1 x) (and (dom l1 l2) (domby h1 h2))))`
 -- `(mlsconstrain (c (p)) (eq t1 t2))`
 -- `(mlsconstrain (c (p)) (eq u1 h1))`
-pub constraints_7 : (found_as keywords.MlsConstrain (list 0 (next (word 1 (codes "mlsconstrain")) (next (list 14 (next (word 15 (codes "c")) (next (list 17 (next (word 18 (codes "p")) none)) none))) (next (list 22 (next (word 23 (codes "eq")) (next (word 26 (codes "l1")) (next (word 29 (codes "x")) none)))) none)))) ≡ fault causes.BadShape 0 (codes "mlsconstrain") ∷ [])
-    × (found_as keywords.MlsConstrain (list 0 (next (word 1 (codes "mlsconstrain")) (next (list 14 (next (word 15 (codes "c")) (next (list 17 (next (word 18 (codes "p")) none)) none))) (next (list 22 (next (word 23 (codes "dom")) (next (word 27 (codes "r1")) (next (word 30 (codes "r2")) none)))) none)))) ≡ fault causes.Unsupported 23 (codes "dom") ∷ [])
-    × (found_as keywords.MlsConstrain (list 0 (next (word 1 (codes "mlsconstrain")) (next (list 14 (next (word 15 (codes "c")) (next (list 17 (next (word 18 (codes "p")) none)) none))) (next (list 22 (next (word 23 (codes "dom")) (next (word 27 (codes "r1")) (next (word 30 (codes "r")) none)))) none)))) ≡ fault causes.BadShape 0 (codes "mlsconstrain") ∷ [])
-    × (found_as keywords.MlsConstrain (list 0 (next (word 1 (codes "mlsconstrain")) (next (list 14 (next (word 15 (codes "c")) (next (list 17 (next (word 18 (codes "p")) none)) none))) (next (list 22 (next (word 23 (codes "or")) (next (list 26 (next (word 27 (codes "eq")) (next (word 30 (codes "t1")) (next (word 33 (codes "x")) none)))) (next (list 36 (next (word 37 (codes "and")) (next (list 41 (next (word 42 (codes "dom")) (next (word 46 (codes "l1")) (next (word 49 (codes "l2")) none)))) (next (list 53 (next (word 54 (codes "domby")) (next (word 60 (codes "h1")) (next (word 63 (codes "h2")) none)))) none)))) none)))) none)))) ≡ [])
-    × (found_as keywords.MlsConstrain (list 0 (next (word 1 (codes "mlsconstrain")) (next (list 14 (next (word 15 (codes "c")) (next (list 17 (next (word 18 (codes "p")) none)) none))) (next (list 22 (next (word 23 (codes "eq")) (next (word 26 (codes "t1")) (next (word 29 (codes "t2")) none)))) none)))) ≡ [])
-    × (found_as keywords.MlsConstrain (list 0 (next (word 1 (codes "mlsconstrain")) (next (list 14 (next (word 15 (codes "c")) (next (list 17 (next (word 18 (codes "p")) none)) none))) (next (list 22 (next (word 23 (codes "eq")) (next (word 26 (codes "u1")) (next (word 29 (codes "h1")) none)))) none)))) ≡ fault causes.ReservedName 29 (codes "h1") ∷ [])
+pub constraints_7 : (found (list 0 (next (word 1 (codes "mlsconstrain")) (next (list 14 (next (word 15 (codes "c")) (next (list 17 (next (word 18 (codes "p")) none)) none))) (next (list 22 (next (word 23 (codes "eq")) (next (word 26 (codes "l1")) (next (word 29 (codes "x")) none)))) none)))) ≡ fault causes.BadShape 0 (codes "mlsconstrain") ∷ [])
+    × (found (list 0 (next (word 1 (codes "mlsconstrain")) (next (list 14 (next (word 15 (codes "c")) (next (list 17 (next (word 18 (codes "p")) none)) none))) (next (list 22 (next (word 23 (codes "dom")) (next (word 27 (codes "r1")) (next (word 30 (codes "r2")) none)))) none)))) ≡ fault causes.Unsupported 23 (codes "dom") ∷ [])
+    × (found (list 0 (next (word 1 (codes "mlsconstrain")) (next (list 14 (next (word 15 (codes "c")) (next (list 17 (next (word 18 (codes "p")) none)) none))) (next (list 22 (next (word 23 (codes "dom")) (next (word 27 (codes "r1")) (next (word 30 (codes "r")) none)))) none)))) ≡ fault causes.BadShape 0 (codes "mlsconstrain") ∷ [])
+    × (found (list 0 (next (word 1 (codes "mlsconstrain")) (next (list 14 (next (word 15 (codes "c")) (next (list 17 (next (word 18 (codes "p")) none)) none))) (next (list 22 (next (word 23 (codes "or")) (next (list 26 (next (word 27 (codes "eq")) (next (word 30 (codes "t1")) (next (word 33 (codes "x")) none)))) (next (list 36 (next (word 37 (codes "and")) (next (list 41 (next (word 42 (codes "dom")) (next (word 46 (codes "l1")) (next (word 49 (codes "l2")) none)))) (next (list 53 (next (word 54 (codes "domby")) (next (word 60 (codes "h1")) (next (word 63 (codes "h2")) none)))) none)))) none)))) none)))) ≡ [])
+    × (found (list 0 (next (word 1 (codes "mlsconstrain")) (next (list 14 (next (word 15 (codes "c")) (next (list 17 (next (word 18 (codes "p")) none)) none))) (next (list 22 (next (word 23 (codes "eq")) (next (word 26 (codes "t1")) (next (word 29 (codes "t2")) none)))) none)))) ≡ [])
+    × (found (list 0 (next (word 1 (codes "mlsconstrain")) (next (list 14 (next (word 15 (codes "c")) (next (list 17 (next (word 18 (codes "p")) none)) none))) (next (list 22 (next (word 23 (codes "eq")) (next (word 26 (codes "u1")) (next (word 29 (codes "h1")) none)))) none)))) ≡ fault causes.ReservedName 29 (codes "h1") ∷ [])
 unfolding verdict_of cells_of cell_of read_row read_word read_string read_list rules containers types classes levels entry_of set_aside_words later_words left_out_words heads first_words begins_with
 constraints_7 = (refl, refl, refl, refl, refl, refl)
 
@@ -464,13 +453,13 @@ statements_5 = (refl, refl, refl, refl, refl, refl, refl, refl)
 -- `(userlevel u (s (c)))`
 -- `(userlevel u (s c d))`
 pub statements_6 : (found (list 0 (next (word 1 (codes "roleattribute")) (next (word 15 (codes "r")) none))) ≡ [])
-    × (found_as keywords.RoleAllow (list 0 (next (word 1 (codes "roleallow")) (next (word 11 (codes "a")) (next (word 13 (codes "b")) none)))) ≡ [])
+    × (found (list 0 (next (word 1 (codes "roleallow")) (next (word 11 (codes "a")) (next (word 13 (codes "b")) none)))) ≡ [])
     × (found (list 0 (next (word 1 (codes "roletransition")) (next (word 16 (codes "a")) (next (word 18 (codes "b")) (next (word 20 (codes "c")) (next (word 22 (codes "d")) none)))))) ≡ [])
     × (found (list 0 (next (word 1 (codes "userattribute")) (next (word 15 (codes "u")) none))) ≡ [])
-    × (found_as keywords.UserLevel (list 0 (next (word 1 (codes "userlevel")) (next (word 11 (codes "u")) (next (word 13 (codes "l")) none)))) ≡ [])
-    × (found_as keywords.UserLevel (list 0 (next (word 1 (codes "userlevel")) (next (word 11 (codes "u")) (next (list 13 (next (word 14 (codes "s")) none)) none)))) ≡ [])
-    × (found_as keywords.UserLevel (list 0 (next (word 1 (codes "userlevel")) (next (word 11 (codes "u")) (next (list 13 (next (word 14 (codes "s")) (next (list 16 (next (word 17 (codes "c")) none)) none))) none)))) ≡ [])
-    × (found_as keywords.UserLevel (list 0 (next (word 1 (codes "userlevel")) (next (word 11 (codes "u")) (next (list 13 (next (word 14 (codes "s")) (next (word 16 (codes "c")) (next (word 18 (codes "d")) none)))) none)))) ≡ fault causes.BadShape 0 (codes "userlevel") ∷ [])
+    × (found (list 0 (next (word 1 (codes "userlevel")) (next (word 11 (codes "u")) (next (word 13 (codes "l")) none)))) ≡ [])
+    × (found (list 0 (next (word 1 (codes "userlevel")) (next (word 11 (codes "u")) (next (list 13 (next (word 14 (codes "s")) none)) none)))) ≡ [])
+    × (found (list 0 (next (word 1 (codes "userlevel")) (next (word 11 (codes "u")) (next (list 13 (next (word 14 (codes "s")) (next (list 16 (next (word 17 (codes "c")) none)) none))) none)))) ≡ [])
+    × (found (list 0 (next (word 1 (codes "userlevel")) (next (word 11 (codes "u")) (next (list 13 (next (word 14 (codes "s")) (next (word 16 (codes "c")) (next (word 18 (codes "d")) none)))) none)))) ≡ fault causes.BadShape 0 (codes "userlevel") ∷ [])
 unfolding verdict_of cells_of cell_of read_row read_word read_string read_list rules containers types classes levels entry_of set_aside_words later_words left_out_words heads first_words begins_with
 statements_6 = (refl, refl, refl, refl, refl, refl, refl, refl)
 
@@ -482,14 +471,14 @@ statements_6 = (refl, refl, refl, refl, refl, refl, refl, refl)
 -- `(userrange u (l m n))`
 -- `(level l (s))`
 -- `(level l (s (a b)))`
-pub statements_7 : (found_as keywords.UserLevel (list 0 (next (word 1 (codes "userlevel")) (next (word 11 (codes "u")) (next (list 13 none) none)))) ≡ fault causes.BadShape 0 (codes "userlevel") ∷ [])
-    × (found_as keywords.UserRange (list 0 (next (word 1 (codes "userrange")) (next (word 11 (codes "u")) (next (word 13 (codes "lr")) none)))) ≡ [])
-    × (found_as keywords.UserRange (list 0 (next (word 1 (codes "userrange")) (next (word 11 (codes "u")) (next (list 13 (next (word 14 (codes "l")) (next (word 16 (codes "m")) none))) none)))) ≡ [])
-    × (found_as keywords.UserRange (list 0 (next (word 1 (codes "userrange")) (next (word 11 (codes "u")) (next (list 13 (next (list 14 (next (word 15 (codes "s")) none)) (next (list 18 (next (word 19 (codes "s")) (next (list 21 (next (word 22 (codes "range")) (next (word 28 (codes "a")) (next (word 30 (codes "b")) none)))) none))) none))) none)))) ≡ [])
-    × (found_as keywords.UserRange (list 0 (next (word 1 (codes "userrange")) (next (word 11 (codes "u")) (next (list 13 (next (word 14 (codes "l")) none)) none)))) ≡ fault causes.BadShape 0 (codes "userrange") ∷ [])
-    × (found_as keywords.UserRange (list 0 (next (word 1 (codes "userrange")) (next (word 11 (codes "u")) (next (list 13 (next (word 14 (codes "l")) (next (word 16 (codes "m")) (next (word 18 (codes "n")) none)))) none)))) ≡ fault causes.BadShape 0 (codes "userrange") ∷ [])
-    × (found_as keywords.Level (list 0 (next (word 1 (codes "level")) (next (word 7 (codes "l")) (next (list 9 (next (word 10 (codes "s")) none)) none)))) ≡ [])
-    × (found_as keywords.Level (list 0 (next (word 1 (codes "level")) (next (word 7 (codes "l")) (next (list 9 (next (word 10 (codes "s")) (next (list 12 (next (word 13 (codes "a")) (next (word 15 (codes "b")) none))) none))) none)))) ≡ [])
+pub statements_7 : (found (list 0 (next (word 1 (codes "userlevel")) (next (word 11 (codes "u")) (next (list 13 none) none)))) ≡ fault causes.BadShape 0 (codes "userlevel") ∷ [])
+    × (found (list 0 (next (word 1 (codes "userrange")) (next (word 11 (codes "u")) (next (word 13 (codes "lr")) none)))) ≡ [])
+    × (found (list 0 (next (word 1 (codes "userrange")) (next (word 11 (codes "u")) (next (list 13 (next (word 14 (codes "l")) (next (word 16 (codes "m")) none))) none)))) ≡ [])
+    × (found (list 0 (next (word 1 (codes "userrange")) (next (word 11 (codes "u")) (next (list 13 (next (list 14 (next (word 15 (codes "s")) none)) (next (list 18 (next (word 19 (codes "s")) (next (list 21 (next (word 22 (codes "range")) (next (word 28 (codes "a")) (next (word 30 (codes "b")) none)))) none))) none))) none)))) ≡ [])
+    × (found (list 0 (next (word 1 (codes "userrange")) (next (word 11 (codes "u")) (next (list 13 (next (word 14 (codes "l")) none)) none)))) ≡ fault causes.BadShape 0 (codes "userrange") ∷ [])
+    × (found (list 0 (next (word 1 (codes "userrange")) (next (word 11 (codes "u")) (next (list 13 (next (word 14 (codes "l")) (next (word 16 (codes "m")) (next (word 18 (codes "n")) none)))) none)))) ≡ fault causes.BadShape 0 (codes "userrange") ∷ [])
+    × (found (list 0 (next (word 1 (codes "level")) (next (word 7 (codes "l")) (next (list 9 (next (word 10 (codes "s")) none)) none)))) ≡ [])
+    × (found (list 0 (next (word 1 (codes "level")) (next (word 7 (codes "l")) (next (list 9 (next (word 10 (codes "s")) (next (list 12 (next (word 13 (codes "a")) (next (word 15 (codes "b")) none))) none))) none)))) ≡ [])
 unfolding verdict_of cells_of cell_of read_row read_word read_string read_list rules containers types classes levels entry_of set_aside_words later_words left_out_words heads first_words begins_with
 statements_7 = (refl, refl, refl, refl, refl, refl, refl, refl)
 
@@ -501,14 +490,14 @@ statements_7 = (refl, refl, refl, refl, refl, refl, refl, refl)
 -- `(rangetransition a b c r)`
 -- `(rangetransition a b c ((s) (s)))`
 -- `(rangetransition a self c r)`
-pub statements_8 : (found_as keywords.Level (list 0 (next (word 1 (codes "level")) (next (word 7 (codes "l")) (next (word 9 (codes "s")) none)))) ≡ fault causes.BadShape 0 (codes "level") ∷ [])
-    × (found_as keywords.Level (list 0 (next (word 1 (codes "level")) (next (word 7 (codes "l")) (next (list 9 (next (list 10 (next (word 11 (codes "s")) none)) none)) none)))) ≡ fault causes.BadShape 0 (codes "level") ∷ [])
-    × (found_as keywords.LevelRange (list 0 (next (word 1 (codes "levelrange")) (next (word 12 (codes "r")) (next (list 14 (next (word 15 (codes "a")) (next (word 17 (codes "b")) none))) none)))) ≡ [])
-    × (found_as keywords.LevelRange (list 0 (next (word 1 (codes "levelrange")) (next (word 12 (codes "r")) (next (word 14 (codes "a")) none)))) ≡ fault causes.BadShape 0 (codes "levelrange") ∷ [])
-    × (found_as keywords.LevelRange (list 0 (next (word 1 (codes "levelrange")) (next (word 12 (codes "r")) (next (list 14 (next (list 15 (next (word 16 (codes "s")) none)) (next (word 19 (codes "b")) none))) none)))) ≡ [])
-    × (found_as keywords.RangeTransition (list 0 (next (word 1 (codes "rangetransition")) (next (word 17 (codes "a")) (next (word 19 (codes "b")) (next (word 21 (codes "c")) (next (word 23 (codes "r")) none)))))) ≡ [])
-    × (found_as keywords.RangeTransition (list 0 (next (word 1 (codes "rangetransition")) (next (word 17 (codes "a")) (next (word 19 (codes "b")) (next (word 21 (codes "c")) (next (list 23 (next (list 24 (next (word 25 (codes "s")) none)) (next (list 28 (next (word 29 (codes "s")) none)) none))) none)))))) ≡ [])
-    × (found_as keywords.RangeTransition (list 0 (next (word 1 (codes "rangetransition")) (next (word 17 (codes "a")) (next (word 19 (codes "self")) (next (word 24 (codes "c")) (next (word 26 (codes "r")) none)))))) ≡ fault causes.ReservedName 19 (codes "self") ∷ [])
+pub statements_8 : (found (list 0 (next (word 1 (codes "level")) (next (word 7 (codes "l")) (next (word 9 (codes "s")) none)))) ≡ fault causes.BadShape 0 (codes "level") ∷ [])
+    × (found (list 0 (next (word 1 (codes "level")) (next (word 7 (codes "l")) (next (list 9 (next (list 10 (next (word 11 (codes "s")) none)) none)) none)))) ≡ fault causes.BadShape 0 (codes "level") ∷ [])
+    × (found (list 0 (next (word 1 (codes "levelrange")) (next (word 12 (codes "r")) (next (list 14 (next (word 15 (codes "a")) (next (word 17 (codes "b")) none))) none)))) ≡ [])
+    × (found (list 0 (next (word 1 (codes "levelrange")) (next (word 12 (codes "r")) (next (word 14 (codes "a")) none)))) ≡ fault causes.BadShape 0 (codes "levelrange") ∷ [])
+    × (found (list 0 (next (word 1 (codes "levelrange")) (next (word 12 (codes "r")) (next (list 14 (next (list 15 (next (word 16 (codes "s")) none)) (next (word 19 (codes "b")) none))) none)))) ≡ [])
+    × (found (list 0 (next (word 1 (codes "rangetransition")) (next (word 17 (codes "a")) (next (word 19 (codes "b")) (next (word 21 (codes "c")) (next (word 23 (codes "r")) none)))))) ≡ [])
+    × (found (list 0 (next (word 1 (codes "rangetransition")) (next (word 17 (codes "a")) (next (word 19 (codes "b")) (next (word 21 (codes "c")) (next (list 23 (next (list 24 (next (word 25 (codes "s")) none)) (next (list 28 (next (word 29 (codes "s")) none)) none))) none)))))) ≡ [])
+    × (found (list 0 (next (word 1 (codes "rangetransition")) (next (word 17 (codes "a")) (next (word 19 (codes "self")) (next (word 24 (codes "c")) (next (word 26 (codes "r")) none)))))) ≡ fault causes.ReservedName 19 (codes "self") ∷ [])
 unfolding verdict_of cells_of cell_of read_row read_word read_string read_list rules containers types classes levels entry_of set_aside_words later_words left_out_words heads first_words begins_with
 statements_8 = (refl, refl, refl, refl, refl, refl, refl, refl)
 
@@ -520,14 +509,14 @@ statements_8 = (refl, refl, refl, refl, refl, refl, refl, refl)
 -- `(sensitivityorder a)`
 -- `(category c)`
 -- `(categoryalias c)`
-pub statements_9 : (found_as keywords.Sensitivity (list 0 (next (word 1 (codes "sensitivity")) (next (word 13 (codes "s")) none))) ≡ [])
-    × (found_as keywords.SensitivityAlias (list 0 (next (word 1 (codes "sensitivityalias")) (next (word 18 (codes "s")) none))) ≡ [])
-    × (found_as keywords.SensitivityAliasActual (list 0 (next (word 1 (codes "sensitivityaliasactual")) (next (word 24 (codes "a")) (next (word 26 (codes "s")) none)))) ≡ [])
-    × (found_as keywords.SensitivityOrder (list 0 (next (word 1 (codes "sensitivityorder")) (next (list 18 (next (word 19 (codes "a")) (next (word 21 (codes "b")) none))) none))) ≡ [])
-    × (found_as keywords.SensitivityOrder (list 0 (next (word 1 (codes "sensitivityorder")) (next (list 18 none) none))) ≡ fault causes.BadShape 0 (codes "sensitivityorder") ∷ [])
-    × (found_as keywords.SensitivityOrder (list 0 (next (word 1 (codes "sensitivityorder")) (next (word 18 (codes "a")) none))) ≡ fault causes.BadShape 0 (codes "sensitivityorder") ∷ [])
-    × (found_as keywords.Category (list 0 (next (word 1 (codes "category")) (next (word 10 (codes "c")) none))) ≡ [])
-    × (found_as keywords.CategoryAlias (list 0 (next (word 1 (codes "categoryalias")) (next (word 15 (codes "c")) none))) ≡ [])
+pub statements_9 : (found (list 0 (next (word 1 (codes "sensitivity")) (next (word 13 (codes "s")) none))) ≡ [])
+    × (found (list 0 (next (word 1 (codes "sensitivityalias")) (next (word 18 (codes "s")) none))) ≡ [])
+    × (found (list 0 (next (word 1 (codes "sensitivityaliasactual")) (next (word 24 (codes "a")) (next (word 26 (codes "s")) none)))) ≡ [])
+    × (found (list 0 (next (word 1 (codes "sensitivityorder")) (next (list 18 (next (word 19 (codes "a")) (next (word 21 (codes "b")) none))) none))) ≡ [])
+    × (found (list 0 (next (word 1 (codes "sensitivityorder")) (next (list 18 none) none))) ≡ fault causes.BadShape 0 (codes "sensitivityorder") ∷ [])
+    × (found (list 0 (next (word 1 (codes "sensitivityorder")) (next (word 18 (codes "a")) none))) ≡ fault causes.BadShape 0 (codes "sensitivityorder") ∷ [])
+    × (found (list 0 (next (word 1 (codes "category")) (next (word 10 (codes "c")) none))) ≡ [])
+    × (found (list 0 (next (word 1 (codes "categoryalias")) (next (word 15 (codes "c")) none))) ≡ [])
 unfolding verdict_of cells_of cell_of read_row read_word read_string read_list rules containers types classes levels entry_of set_aside_words later_words left_out_words heads first_words begins_with
 statements_9 = (refl, refl, refl, refl, refl, refl, refl, refl)
 
@@ -539,9 +528,9 @@ statements_9 = (refl, refl, refl, refl, refl, refl, refl, refl)
 -- `(neverallow a self (c (d)))`
 -- `(neverallow a other (c (d)))`
 -- `(macro m ((typealias a)(bool b)(boolean c)(classmap d)(classpermission e)))`
-pub statements_10 : (found_as keywords.CategoryAliasActual (list 0 (next (word 1 (codes "categoryaliasactual")) (next (word 21 (codes "a")) (next (word 23 (codes "c")) none)))) ≡ [])
-    × (found_as keywords.CategoryOrder (list 0 (next (word 1 (codes "categoryorder")) (next (list 15 (next (word 16 (codes "a")) none)) none))) ≡ [])
-    × (found_as keywords.CategorySet (list 0 (next (word 1 (codes "categoryset")) (next (word 13 (codes "c")) (next (list 15 (next (word 16 (codes "all")) none)) none)))) ≡ [])
+pub statements_10 : (found (list 0 (next (word 1 (codes "categoryaliasactual")) (next (word 21 (codes "a")) (next (word 23 (codes "c")) none)))) ≡ [])
+    × (found (list 0 (next (word 1 (codes "categoryorder")) (next (list 15 (next (word 16 (codes "a")) none)) none))) ≡ [])
+    × (found (list 0 (next (word 1 (codes "categoryset")) (next (word 13 (codes "c")) (next (list 15 (next (word 16 (codes "all")) none)) none)))) ≡ [])
     × (found (list 0 (next (word 1 (codes "auditallow")) (next (word 12 (codes "a")) (next (word 14 (codes "b")) (next (list 16 (next (word 17 (codes "c")) (next (list 19 (next (word 20 (codes "d")) none)) none))) none))))) ≡ [])
     × (found (list 0 (next (word 1 (codes "dontaudit")) (next (word 11 (codes "a")) (next (word 13 (codes "b")) (next (word 15 (codes "p")) none))))) ≡ [])
     × (found (list 0 (next (word 1 (codes "neverallow")) (next (word 12 (codes "a")) (next (word 14 (codes "self")) (next (list 19 (next (word 20 (codes "c")) (next (list 22 (next (word 23 (codes "d")) none)) none))) none))))) ≡ [])
@@ -567,9 +556,9 @@ statements_11 = (refl, refl, refl, refl)
 -- `(neverallow a b p)`
 -- `(classpermissionset p (c (not a)))`
 -- `(classmapping m p (c all))`
-pub names_1 : (found_as keywords.Constrain (list 0 (next (word 1 (codes "constrain")) (next (word 11 (codes "p")) (next (list 13 (next (word 14 (codes "eq")) (next (word 17 (codes "u1")) (next (word 20 (codes "u2")) none)))) none)))) ≡ [])
-    × (found_as keywords.Constrain (list 0 (next (word 1 (codes "constrain")) (next (word 11 (codes "1x")) (next (list 14 (next (word 15 (codes "eq")) (next (word 18 (codes "u1")) (next (word 21 (codes "1x")) none)))) none)))) ≡ fault causes.BadName 11 (codes "1x") ∷ fault causes.BadName 21 (codes "1x") ∷ [])
-    × (found_as keywords.MlsConstrain (list 0 (next (word 1 (codes "mlsconstrain")) (next (word 14 (codes "p")) (next (list 16 (next (word 17 (codes "dom")) (next (word 21 (codes "r1")) (next (word 24 (codes "r2")) none)))) none)))) ≡ fault causes.Unsupported 17 (codes "dom") ∷ [])
+pub names_1 : (found (list 0 (next (word 1 (codes "constrain")) (next (word 11 (codes "p")) (next (list 13 (next (word 14 (codes "eq")) (next (word 17 (codes "u1")) (next (word 20 (codes "u2")) none)))) none)))) ≡ [])
+    × (found (list 0 (next (word 1 (codes "constrain")) (next (word 11 (codes "1x")) (next (list 14 (next (word 15 (codes "eq")) (next (word 18 (codes "u1")) (next (word 21 (codes "1x")) none)))) none)))) ≡ fault causes.BadName 11 (codes "1x") ∷ fault causes.BadName 21 (codes "1x") ∷ [])
+    × (found (list 0 (next (word 1 (codes "mlsconstrain")) (next (word 14 (codes "p")) (next (list 16 (next (word 17 (codes "dom")) (next (word 21 (codes "r1")) (next (word 24 (codes "r2")) none)))) none)))) ≡ fault causes.Unsupported 17 (codes "dom") ∷ [])
     × (found (list 0 (next (word 1 (codes "neverallow")) (next (word 12 (codes "a")) (next (word 14 (codes "b")) (next (word 16 (codes "p")) none))))) ≡ [])
     × (found (list 0 (next (word 1 (codes "classpermissionset")) (next (word 20 (codes "p")) (next (list 22 (next (word 23 (codes "c")) (next (list 25 (next (word 26 (codes "not")) (next (word 30 (codes "a")) none))) none))) none)))) ≡ [])
     × (found (list 0 (next (word 1 (codes "classmapping")) (next (word 14 (codes "m")) (next (word 16 (codes "p")) (next (list 18 (next (word 19 (codes "c")) (next (word 21 (codes "all")) none))) none))))) ≡ [])
@@ -661,11 +650,11 @@ bare_4 = (refl, refl, refl, refl, refl, refl, refl)
 pub rows_1 : (found (list 0 (next (word 1 (codes "boolean")) (next (word 9 (codes "bo")) (next (word 12 (codes "true")) none)))) ≡ [])
     × (found (list 0 (next (word 1 (codes "booleanif")) (next (word 11 (codes "bo")) (next (list 14 (next (word 15 (codes "false")) (next (list 21 (next (word 22 (codes "allow")) (next (word 28 (codes "b")) (next (word 30 (codes "a")) (next (list 32 (next (word 33 (codes "file")) (next (list 38 (next (word 39 (codes "open")) none)) none))) none))))) none))) none)))) ≡ [])
     × (found (list 0 (next (word 1 (codes "neverallow")) (next (word 12 (codes "b")) (next (word 14 (codes "a")) (next (list 16 (next (word 17 (codes "file")) (next (list 22 (next (word 23 (codes "open")) (next (word 28 (codes "read")) none))) none))) none))))) ≡ [])
-    × (found_as keywords.Mls (list 0 (next (word 1 (codes "mls")) (next (word 5 (codes "true")) none))) ≡ [])
-    × (found_as keywords.Sensitivity (list 0 (next (word 1 (codes "sensitivity")) (next (word 13 (codes "s0")) none))) ≡ [])
-    × (found_as keywords.Category (list 0 (next (word 1 (codes "category")) (next (word 10 (codes "c0")) none))) ≡ [])
-    × (found_as keywords.SensitivityOrder (list 0 (next (word 1 (codes "sensitivityorder")) (next (list 18 (next (word 19 (codes "s0")) (next (word 22 (codes "s1")) none))) none))) ≡ [])
-    × (found_as keywords.CategoryOrder (list 0 (next (word 1 (codes "categoryorder")) (next (list 15 (next (word 16 (codes "c0")) (next (word 19 (codes "c1")) (next (word 22 (codes "c2")) (next (word 25 (codes "c3")) none))))) none))) ≡ [])
+    × (found (list 0 (next (word 1 (codes "mls")) (next (word 5 (codes "true")) none))) ≡ [])
+    × (found (list 0 (next (word 1 (codes "sensitivity")) (next (word 13 (codes "s0")) none))) ≡ [])
+    × (found (list 0 (next (word 1 (codes "category")) (next (word 10 (codes "c0")) none))) ≡ [])
+    × (found (list 0 (next (word 1 (codes "sensitivityorder")) (next (list 18 (next (word 19 (codes "s0")) (next (word 22 (codes "s1")) none))) none))) ≡ [])
+    × (found (list 0 (next (word 1 (codes "categoryorder")) (next (list 15 (next (word 16 (codes "c0")) (next (word 19 (codes "c1")) (next (word 22 (codes "c2")) (next (word 25 (codes "c3")) none))))) none))) ≡ [])
 unfolding verdict_of cells_of cell_of read_row read_word read_string read_list rules containers types classes levels entry_of set_aside_words later_words left_out_words heads first_words begins_with
 rows_1 = (refl, refl, refl, refl, refl, refl, refl, refl)
 
@@ -677,9 +666,9 @@ rows_1 = (refl, refl, refl, refl, refl, refl, refl, refl)
 -- `(roletype system_r foo_t)`
 -- `(typeattributeset cil_gen_require foo_t)`
 -- `(optional foo_optional_2 (typeattributeset cil_gen_require bar_t) (allow foo_t bar_t (file (read ))))`
-pub rows_2 : (found_as keywords.SensitivityCategory (list 0 (next (word 1 (codes "sensitivitycategory")) (next (word 21 (codes "s0")) (next (list 24 (next (word 25 (codes "all")) none)) none)))) ≡ [])
-    × (found_as keywords.UserRange (list 0 (next (word 1 (codes "userrange")) (next (word 11 (codes "u")) (next (list 13 (next (list 14 (next (word 15 (codes "s0")) none)) (next (list 19 (next (word 20 (codes "s1")) (next (list 23 (next (word 24 (codes "range")) (next (word 30 (codes "c0")) (next (word 33 (codes "c3")) none)))) none))) none))) none)))) ≡ [])
-    × (found_as keywords.MlsConstrain (list 0 (next (word 1 (codes "mlsconstrain")) (next (list 14 (next (word 15 (codes "file")) (next (list 20 (next (word 21 (codes "read")) none)) none))) (next (list 28 (next (word 29 (codes "dom")) (next (word 33 (codes "l1")) (next (word 36 (codes "l2")) none)))) none)))) ≡ [])
+pub rows_2 : (found (list 0 (next (word 1 (codes "sensitivitycategory")) (next (word 21 (codes "s0")) (next (list 24 (next (word 25 (codes "all")) none)) none)))) ≡ [])
+    × (found (list 0 (next (word 1 (codes "userrange")) (next (word 11 (codes "u")) (next (list 13 (next (list 14 (next (word 15 (codes "s0")) none)) (next (list 19 (next (word 20 (codes "s1")) (next (list 23 (next (word 24 (codes "range")) (next (word 30 (codes "c0")) (next (word 33 (codes "c3")) none)))) none))) none))) none)))) ≡ [])
+    × (found (list 0 (next (word 1 (codes "mlsconstrain")) (next (list 14 (next (word 15 (codes "file")) (next (list 20 (next (word 21 (codes "read")) none)) none))) (next (list 28 (next (word 29 (codes "dom")) (next (word 33 (codes "l1")) (next (word 36 (codes "l2")) none)))) none)))) ≡ [])
     × (found (list 0 (next (word 1 (codes "typeattribute")) (next (word 15 (codes "cil_gen_require")) none))) ≡ [])
     × (found (list 0 (next (word 1 (codes "roleattribute")) (next (word 15 (codes "cil_gen_require")) none))) ≡ [])
     × (found (list 0 (next (word 1 (codes "roletype")) (next (word 10 (codes "system_r")) (next (word 19 (codes "foo_t")) none)))) ≡ [])
