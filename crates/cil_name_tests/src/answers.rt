@@ -8,7 +8,7 @@ use cil_blocks::{Spaces, inherit};
 use cil_macros::{Instances, expand};
 use cil_modset::ModuleSet;
 use cil_names::{Names, commons_of, declare, permissions_of};
-use cil_syntax::{Bytes, FaultList, Program, render, written};
+use cil_syntax::{Bytes, FaultList, Program, all_written, render};
 use cil_text_tests::set_of;
 use std::alloc::Global;
 
@@ -107,7 +107,7 @@ fn ask_program<Q: Question>(alloc: Global, program: &Program, ask: &Q, out: &mut
 }
 
 fn ask_modules<Q: Question>(alloc: Global, modules: &ModuleSet, ask: &Q, out: &mut String) -> bool {
-    match written(alloc, modules) {
+    match all_written(alloc, modules) {
         Ok(program) => ask_program(alloc, &program, ask, out),
         Err(_) => false,
     }

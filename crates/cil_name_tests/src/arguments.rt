@@ -1,4 +1,4 @@
-//! What may be an argument of the kinds that are not supported yet, and what the bodies of macros declare.
+//! What may be an argument of the kinds of levels, and what the bodies of macros declare.
 
 use crate::answers::{Question, is_answer};
 use cil_macros::{Instances, declared_in_bodies, is_of_kind};
@@ -25,7 +25,7 @@ impl Question for IsArgument {
     }
 }
 
-/// The kind of a parameter, a call with an argument, and whether that has the form of the kind. Those of supported kinds are in sessions.
+/// The kind of a parameter, a call with an argument, and whether that has the form of the kind. Those of other kinds are in sessions.
 const ARGUMENTS: &[(Op, &str, bool)] = &[
     (Op::SensitivityKind, "(call m (s0))", true),
     (Op::SensitivityKind, "(call m ((s0)))", false),

@@ -9,6 +9,8 @@ use std::alloc::Global;
 const PLACED: &[&str] = &[
     "(block p (blockabstract p)(block x (type y))(macro m ()))(block q (blockinherit p)(block k (blockinherit .p.x)))(block n (blockinherit p)(blockinherit q.k)) => 19 0",
     "(role r)(type z)(type w)(macro a ((type t)) (type x)(roletype r t))(macro b ((type t)) (call a (t))(type y))(block n (call b (z)))(call b (z))(call a (w)) => 9 10",
+    // A list that is handed on, and a booleanif in the body that gets it.
+    "(sensitivity s)(category c)(boolean b true)(type t)(class f (p))(macro k ((categoryset x)) (level l (s (not x)))(booleanif b (true (allow t t (f (p))))))(macro m ((categoryset y)) (call k (y)))(call m ((c all))) => 8 4",
 ];
 
 struct Counts;

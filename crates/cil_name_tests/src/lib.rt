@@ -13,6 +13,8 @@ mod class_masks;
 #[cfg(test)]
 mod growths;
 #[cfg(test)]
+mod level_rows;
+#[cfg(test)]
 mod look_up_rows;
 #[cfg(test)]
 mod look_ups;

@@ -202,7 +202,7 @@ fn a_chain_takes_a_look_up_for_each_type_and_each_word(rt: HostRuntime) {
 
 /// The faults of words outside all optionals, where these are in force.
 #[derive(Drop)]
-struct Judged(&'static [usize]);
+pub(crate) struct Judged(pub(crate) &'static [usize]);
 
 impl NamedQuestion for Judged {
     fn answer(&self, alloc: Global, all: &Named, out: &mut String) -> bool {

@@ -142,6 +142,9 @@ const LISTED: &[&str] = &[
     "(class c (r))(common k (x))(classcommon c .k)(allow r c (c (r x))) => c: 0; .k: 1; r: -; c: -; c: 0; r: 0; x: 0; ",
     // A call, and a statement of the body: an argument is looked up where the call stands.
     "(macro m ((type x)) (roletype object_r x))(type t)(block p (type t)(call m (t))) => m: 0; t: 3 2; object_r: 1; t: 3 2; ",
+    // An argument that is a list, and the names in a constraint.
+    "(sensitivity s)(category c)(macro m ((categoryset p)) (level l (s (not p))))(call m ((c c))) => m: 2; c: 0; c: 0; s: 4; c: 0; c: 0; ",
+    "(class f (p))(type t)(constrain (f (p)) (or (eq t1 (t t)) (eq r1 r2))) => f: 0; p: 0; t: 2; t: 2; ",
     "(block a (type t))(block b (blockinherit a)) => ",
 ];
 
