@@ -30,7 +30,7 @@ KINDS = {
 }
 
 # Sessions of what stages add. There are none without a stage.
-OF_STAGES = {"stages": stage_sessions.stages}
+OF_STAGES = {"stages": stage_sessions.stages, "levels": stage_sessions.levels}
 
 USUAL_COUNT = 200
 

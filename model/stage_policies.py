@@ -158,15 +158,15 @@ class StageDraft(OptionalDraft):
             super().add_declaration()
             return
         kind = self.rng.choice(self.declaring)
-        spot = self.spot(may_be_macro=kind != b"classmap" or self.goes_wrong("shapes", 0.1))
-        self.declare(spot, kind, self.rng.choice(NAMES[kind]))
+        spot = self.spot(may_be_macro=kind not in BLOCK_ROWS or self.goes_wrong("shapes", 0.1))
+        self.declare(spot, kind, self.rng.choice(self.NAMES[kind]))
 
     def add_base(self):
         super().add_base()
         spot = self.spots[-1]
         self.declare(spot, b"user", b"u")
         for kind in self.declaring:
-            for name in NAMES[kind][-2:]:
+            for name in self.NAMES[kind][-2:]:
                 if often(self.rng, 0.6):
                     self.declare(spot, kind, name)
 

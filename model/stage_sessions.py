@@ -3,6 +3,7 @@ import block_sessions
 from block_sessions import any_context
 from faults import printed
 from instances import words_in
+from level_policies import LevelDraft
 from optional_sessions import LINES, names_out, pairs_in, pairs_out, rules_out, some
 from pieces import install, often
 from rules import targets_of
@@ -28,6 +29,11 @@ def stages(rng, language):
     for _ in range(rng.choice([0, 0, 1, 2])):
         parts.insert(rng.randrange(len(parts) + 1), rng.choice([*LINES, *ODD_LINES]))
     return parts
+
+
+def levels(rng, language):
+    """The same with levels, constraints and roleallow, whose meaning is still to come: refused, unless --whole."""
+    return block_sessions.loads(rng, LevelDraft(rng, language), asked, 0.35)
 
 
 def asked(rng, policy):
