@@ -49,6 +49,7 @@ pub mod PutLemmas
 pub mod ReadLemmas
 pub mod RoundLemmas
 pub mod SaidPartLemmas
+pub mod SaidTerms
 pub mod SaidThere
 pub mod SameParameters
 pub mod ScopeEndLemmas

@@ -1,6 +1,6 @@
 -- What a placed statement says, part by part: a word, the arguments of a call, one after another, and all of it.
 use Rattle.std.proofs.Common.{◌≡◌, ◌≤◌, ◌<◌, ◌+◌, ℕ, zero, suc, List, [], ◌∷◌, ◌++◌, length, get_or, drop, refl, sym, ◌∙◌, ap, subst, append_assoc}
-use Rattle.std.specs.Prelude.{Bool, true, false, if◌then◌else◌, Option, Some, None, slice_get}
+use Rattle.std.specs.Prelude.{Bool, true, false, ◌||◌, if◌then◌else◌, Option, Some, None, slice_get}
 use Rattle.std.proofs.lemmas.List.{append-nil, drop_all}
 use Rattle.cil_base.specs.Places.{drop_at, none_some, some_same}
 use Rattle.cil_syntax.specs.declared.kind.Keyword.{Keyword}
@@ -29,7 +29,7 @@ use Rattle.cil_macros.specs.declared.placed_word.Said.{Said}
 use Rattle.cil_macros.specs.declared.placed_word.Said.TheVariants as said
 use Rattle.cil_macros.specs.declared.scene.Scene.{Scene}
 use Rattle.cil_macros.specs.Calls.{Unfolded, is_call, unfolded}
-use Rattle.cil_macros.specs.Items.{call_says, is_text, is_text_value, put_unless, said_as, said_by, said_there, says, says_lists, scoped_by, unfolded_values, values_of, with_macro}
+use Rattle.cil_macros.specs.Items.{call_says, is_text, is_text_value, may_say_lists, put_unless, said_as, said_by, said_there, says, says_as_written, says_lists, scoped_by, unfolded_values, values_of, with_macro}
 use Rattle.cil_macros.specs.Listed as lists
 use Rattle.cil_macros.specs.Listed.{all_parts_of, list_there, parts_of, parts_there, word as part_word}
 use Rattle.cil_macros.specs.Macros.{all_standing}
@@ -41,6 +41,7 @@ use Rattle.cil_macros.specs.Scene.{placed_of_scene}
 use Rattle.cil_macros.specs.Unfoldings.{IsUnfolding}
 use Rattle.cil_macros.specs.Walks.{written_in}
 use Rattle.cil_macros.proofs.ArgumentLemmas.{first_left, one_parameter}
+use Rattle.cil_macros.proofs.ItemLemmas.{said_filled}
 use Rattle.cil_macros.proofs.PartLemmas.{behind_there}
 use Rattle.cil_macros.proofs.ServingLemmas.{no_parameter}
 
@@ -236,6 +237,13 @@ call_so ws ss p ps first more new none e f =
 
 -- ---- a statement, by its keyword
 
+-- what may say lists says what is written
+lists_written : (k : Keyword) → may_say_lists k ≡ true → says_as_written k ≡ true
+lists_written keywords.BlockAbstract e = absurd cc
+lists_written keywords.BlockInherit e = absurd cc
+lists_written keywords.Call e = absurd cc
+lists_written k e = refl
+
 module _ (ws : List Written) (ss : List Standing) (p : Placed) where
   says_its_call : (k : Keyword) (args : Terms Word) → is_call k ≡ true → says ws ss p k args ≡ call_says ws ss p args
   unfolding says
@@ -243,14 +251,8 @@ module _ (ws : List Written) (ss : List Standing) (p : Placed) where
   says_its_call k args e = absurd (let f : false ≡ true = e in cc)
 
   says_its_words : (k : Keyword) (args : Terms Word) → says_lists k ≡ true → is_call k ≡ false → says ws ss p k args ≡ all_filled (said_by ws p) args
-  unfolding says
-  says_its_words keywords.Allow args e f = refl
-  says_its_words keywords.AuditAllow args e f = refl
-  says_its_words keywords.DontAudit args e f = refl
-  says_its_words keywords.NeverAllow args e f = refl
-  says_its_words keywords.ClassMapping args e f = refl
-  says_its_words keywords.Call args e f = absurd (let g : true ≡ false = f in cc)
-  says_its_words k args e f = absurd (let g : false ≡ true = e in cc)
+  says_its_words k args e f =
+      let lists : may_say_lists k ≡ true = sym (ap (λ b. b || may_say_lists k) f) ∙ e in said_filled ws ss p k args (lists_written k lists) lists
 
   -- all of it
   abbrev all_of : Written → Terms ScopedWord

@@ -97,6 +97,15 @@ may_say_lists keywords.AuditAllow = true
 may_say_lists keywords.DontAudit = true
 may_say_lists keywords.NeverAllow = true
 may_say_lists keywords.ClassMapping = true
+may_say_lists keywords.SensitivityCategory = true
+may_say_lists keywords.CategorySet = true
+may_say_lists keywords.Level = true
+may_say_lists keywords.LevelRange = true
+may_say_lists keywords.UserLevel = true
+may_say_lists keywords.UserRange = true
+may_say_lists keywords.RangeTransition = true
+may_say_lists keywords.Constrain = true
+may_say_lists keywords.MlsConstrain = true
 may_say_lists keyword = false
 
 abbrev pub says_there : List Written → Placed → Bool → Terms Word → Terms ScopedWord

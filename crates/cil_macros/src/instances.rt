@@ -245,5 +245,14 @@ pub fn may_say_lists(keyword: Keyword) -> bool
             | Keyword::DontAudit
             | Keyword::NeverAllow
             | Keyword::ClassMapping
+            | Keyword::SensitivityCategory
+            | Keyword::CategorySet
+            | Keyword::Level
+            | Keyword::LevelRange
+            | Keyword::UserLevel
+            | Keyword::UserRange
+            | Keyword::RangeTransition
+            | Keyword::Constrain
+            | Keyword::MlsConstrain
     )
 }
