@@ -14,16 +14,17 @@ use Rattle.cil_syntax.specs.declared.kind.Keyword.TheVariants as keywords
 use Rattle.cil_syntax.specs.declared.kind.Kind.{Kind}
 use Rattle.cil_syntax.specs.declared.kind.Sign.{Sign}
 use Rattle.cil_syntax.specs.declared.program.Statement.{Statement}
-use Rattle.cil_syntax.specs.declared.term.Word.{Word}
 use Rattle.cil_syntax.specs.Forms.{BeginsWithName, name_in_front}
 use Rattle.cil_syntax.specs.Kinds.{is_wanted}
+use Rattle.cil_syntax.specs.Program.{statement_of}
 use Rattle.cil_syntax.specs.Said.{args_of}
 use Rattle.cil_syntax.specs.Scopes.{ScopedWord}
 use Rattle.cil_syntax.specs.Table.{entry_of}
-use Rattle.cil_syntax.specs.Terms.{Leaf, Name, Form, Terms, nil, cons}
-use Rattle.cil_macros.specs.Item.{Item, OptSet, all_replaced, is_enabled}
-use Rattle.cil_macros.specs.Items.{says_as_written}
-use Rattle.cil_macros.proofs.ItemsThere.{IsSaid}
+use Rattle.cil_syntax.specs.Terms.{Name, Terms, cons}
+use Rattle.cil_macros.specs.Item.{Item, OptSet, is_enabled}
+use Rattle.cil_macros.specs.Items.{Kept, item_at, placed_at, says_as_written}
+use Rattle.cil_macros.proofs.ItemsThere.{keyword_there}
+use Rattle.cil_macros.proofs.SaidTerms.{SaysTerms, front_said, front_written, terms_there}
 use Rattle.cil_names.specs.Declarations.{Symbol}
 use Rattle.cil_names.specs.Entries.{AreEntries, HasNoEntryIn, IsEntryIn}
 use Rattle.cil_names.specs.Numbers.{symbol_of}
@@ -41,20 +42,6 @@ declares_written keywords.BlockAbstract kind c = absurd (contains_none kind c)
 declares_written keywords.Call kind c = absurd (contains_none kind c)
 declares_written keyword kind c = refl
 
-module _ (f : Word → ScopedWord) where
-  said_front : (args : Terms Word) (at : Spot) (name : List ℕ) (rest : Terms ScopedWord) → all_replaced (λ at. at) f args ≡ cons (Name at name) rest
-      → (more : Terms Word) × (args ≡ cons (Name at name) more)
-  unfolding all_replaced
-  said_front nil at name rest e = absurd cc
-  said_front (cons (Leaf w) ts) at name rest e = absurd cc
-  said_front (cons (Form bt op parts) ts) at name rest e = absurd cc
-  said_front (cons (Name bt n) ts) at name rest e =
-      let p : bt ≡ at = cc in let q : n ≡ name = cc in (ts, λ i. cons (Name (p i) (q i)) ts)
-
-  item_says : (at : Spot) (name : List ℕ) (rest : Terms Word) → all_replaced (λ bt. bt) f (cons (Name at name) rest) ≡ cons (Name at name) (all_replaced (λ bt. bt) f rest)
-  unfolding all_replaced
-  item_says at name rest = refl
-
 -- the kind that a keyword declares
 pub declares_one : (keyword : Keyword) (kind declared : Kind) → (entry_of keyword).declares ≡ declared ∷ [] → (declared ≡ kind) ↔ Contains (entry_of keyword).declares kind
 declares_one keyword kind declared e = (
@@ -65,6 +52,14 @@ declares_one keyword kind declared e = (
 pub declares_none : (keyword : Keyword) (kind : Kind) → (entry_of keyword).declares ≡ [] → Contains (entry_of keyword).declares kind → ⊥
 declares_none keyword kind e c = contains_none kind (subst (λ ks. Contains ks kind) e c)
 
+-- an item that says what is written, whether its words may say lists or not
+pub record SaysWritten (st : Statement) (x : Item) : Type 0 where
+  pub keyword : x.keyword ≡ st.keyword
+  pub args : says_as_written st.keyword ≡ true → SaysTerms (args_of st) x.args
+
+pub said_so : (i : Kept) (at : ℕ) (st : Statement) → statement_of st ≡ (placed_at i at).standing.statement.statement → SaysWritten st (item_at i at)
+said_so i at st is = record { keyword = keyword_there i at st is; args = terms_there i at st is }
+
 module _ (ss : List blocks.Space) (es : List Entry) (xs : List Item) (s : OptSet) (kind : Kind) (flags : List Bool) (x : Item) where
   pub left_out : is_enabled s x ≡ false → (code : FaultCode) (f : Fault) → IsToldAt ss es xs s kind code flags x f → ⊥
   left_out off code f t = true≢false (sym t.declares.enabled ∙ off)
@@ -72,22 +67,25 @@ module _ (ss : List blocks.Space) (es : List Entry) (xs : List Item) (s : OptSet
   pub other_kind : (st : Statement) → x.keyword ≡ st.keyword → (Contains (entry_of st.keyword).declares kind → ⊥) → (code : FaultCode) (f : Fault) → IsToldAt ss es xs s kind code flags x f → ⊥
   other_kind st same none code f t = none (subst (λ k. Contains (entry_of k).declares kind) same t.declares.of_kind)
 
-  module _ (st : Statement) (g : Word → ScopedWord) (said : IsSaid st g x) where
+  module _ (st : Statement) (said : SaysWritten st x) where
     module _ (declares : Contains (entry_of st.keyword).declares kind) where
-      args_are : x.args ≡ all_replaced (λ at. at) g (args_of st)
+      args_are : SaysTerms (args_of st) x.args
       args_are = said.args (declares_written st.keyword kind declares)
 
       pub no_name : name_in_front (args_of st) ≡ None → (code : FaultCode) (f : Fault) → IsToldAt ss es xs s kind code flags x f → ⊥
       no_name none code f t =
-          let (more, is) = said_front g (args_of st) t.at t.name t.declares.rest (sym args_are ∙ t.declares.says) in
+          let (more, is) = front_written (args_of st) x.args args_are t.at t.name t.declares.rest t.declares.says in
           none-some t.name (sym none ∙ ap name_in_front is)
 
       module _ (at : Spot) (name : List ℕ) (begins : BeginsWithName (args_of st) at name) where
+        front : BeginsWithName x.args at name
+        front = front_said (args_of st) x.args args_are at name begins
+
         abbrev rest : Terms ScopedWord
-        rest = all_replaced (λ bt. bt) g begins.0
+        rest = front.0
 
         says : x.args ≡ cons (Name at name) rest
-        says = args_are ∙ ap (all_replaced (λ bt. bt) g) begins.1 ∙ item_says g at name begins.0
+        says = front.1
 
         same_name : (code : FaultCode) (f : Fault) (t : IsToldAt ss es xs s kind code flags x f) → (t.at ≡ at) × (t.name ≡ name)
         same_name code f t = let e : cons (Name t.at t.name) t.declares.rest ≡ cons (Name at name) rest = sym t.declares.says ∙ says in (cc, cc)

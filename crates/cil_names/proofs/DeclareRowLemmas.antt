@@ -16,7 +16,7 @@ use Rattle.cil_syntax.specs.Terms.{Leaf, Name, Form, Terms, nil, cons}
 use Rattle.cil_faults.specs.Namespaces.{Namespace}
 use Rattle.cil_syntax.specs.Scopes.{ScopedWord}
 use Rattle.cil_macros.specs.Item.{Item}
-use Rattle.cil_macros.specs.Items.{Kept, item_at, may_say_lists, says_as_written}
+use Rattle.cil_macros.specs.Items.{Kept, item_at, says_as_written}
 use Rattle.cil_names.specs.declared.row.Row.{Row}
 use Rattle.cil_names.specs.Declarations.{Declaration, content_of, declarations, declared_by}
 use Rattle.cil_syntax.specs.declared.name_space.NameSpace.TheVariants as name_spaces
@@ -33,16 +33,6 @@ declares_written keywords.BlockInherit kind c = absurd (contains_none kind c)
 declares_written keywords.Call kind c = absurd (contains_none kind c)
 declares_written keywords.Optional kind c = absurd (contains_none kind c)
 declares_written k kind c = refl
-
--- what declares something has no place for a list
-pub declares_named : (k : Keyword) (kind : Kind) → Contains (entry_of k).declares kind → may_say_lists k ≡ false
-unfolding entry_of
-declares_named keywords.Allow kind c = absurd (contains_none kind c)
-declares_named keywords.AuditAllow kind c = absurd (contains_none kind c)
-declares_named keywords.DontAudit kind c = absurd (contains_none kind c)
-declares_named keywords.NeverAllow kind c = absurd (contains_none kind c)
-declares_named keywords.ClassMapping kind c = absurd (contains_none kind c)
-declares_named k kind c = refl
 
 is_no_block : Kind → Bool
 is_no_block kinds.Block = false

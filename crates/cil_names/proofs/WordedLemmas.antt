@@ -19,17 +19,17 @@ use Rattle.cil_syntax.specs.Forms.{is_class_list}
 use Rattle.cil_syntax.specs.Scopes.{ScopedWord}
 use Rattle.cil_syntax.specs.Terms.{Term, Leaf, Name, Form, Terms, nil, cons}
 use Rattle.cil_macros.specs.Calls.{is_call}
-use Rattle.cil_macros.specs.Item.{all_replaced, all_words_in, replaced, words_in}
-use Rattle.cil_macros.specs.Items.{Kept, item_at, may_say_lists, placed_at, said_by, says_as_written, word_at}
+use Rattle.cil_macros.specs.Item.{all_words_in, words_in}
+use Rattle.cil_macros.specs.Items.{Kept, item_at, placed_at, says_as_written}
 use Rattle.cil_macros.specs.Macros.{all_standing}
 use Rattle.cil_macros.specs.Placed.{Placed, all_filled, filled}
 use Rattle.cil_macros.specs.Walks.{written_in}
-use Rattle.cil_macros.proofs.ItemLemmas.{said_filled, said_named}
+use Rattle.cil_macros.proofs.SaidTerms.{said_terms}
 use Rattle.cil_names.specs.Resolves.{all_wanted_in, is_mapping, wanted_in, words_of, words_of_class, words_of_mapping, words_said}
 use Rattle.cil_names.specs.Declarations.{content_of}
-use Rattle.cil_names.specs.DeclareRows.{SaysWritten, behind, content_at}
+use Rattle.cil_names.specs.DeclareRows.{behind, content_at}
 use Rattle.cil_names.specs.Worded.{IsOfStatement, IsWordless, has_some, is_worded}
-use Rattle.cil_names.proofs.ReadingLemmas.{mapping_said, no_words, plain_said, says_nothing, words_of_terms}
+use Rattle.cil_names.proofs.ReadingLemmas.{mapping_said, no_words, plain_said, says_nothing}
 
 -- ---- terms
 
@@ -201,15 +201,8 @@ module _ (i : Kept) (at : ℕ) (unworded : is_worded (placed_at i at).standing.s
   pub unworded_says : all_words_in (item_at i at).args ≡ []
   unworded_says = elim (cases_Bool (says_as_written written.keyword)) [
     | inl t ↦
-        elim (cases_Bool (may_say_lists written.keyword)) [
-          | inl lists ↦
-              ap all_words_in (said_filled (written_in i.0) (all_standing i.0) there written.keyword written.args t lists)
-              ∙ none_filled (said_by (written_in i.0) there) written.args (no_word t)
-          | inr named ↦
-              ap all_words_in (said_named (written_in i.0) (all_standing i.0) there written.keyword written.args t named)
-              ∙ words_of_terms (word_at i at) written.args
-              ∙ ap (map (word_at i at)) (no_word t)
-        ]
+        let said = said_terms (written_in i.0) (all_standing i.0) there written.keyword written.args t in
+        ap all_words_in said.are ∙ none_filled said.term written.args (no_word t)
     | inr f ↦ ap all_words_in (says_nothing (written_in i.0) (all_standing i.0) there written.keyword written.args no_call f) ∙ no_words
   ]
 
@@ -219,16 +212,16 @@ module _ (i : Kept) (at : ℕ) (unworded : is_worded (placed_at i at).standing.s
 
 -- ---- what has no words says the same at each place
 
-module _ {L M : Type 0} (f g : L → M) where
+module _ {L M : Type 0} (f g : L → Term M) where
   mutual
-    unfolding words_in all_words_in replaced all_replaced
+    unfolding words_in all_words_in filled all_filled
 
-    term_alike : (t : Term L) → words_in t ≡ [] → replaced (λ at. at) f t ≡ replaced (λ at. at) g t
+    term_alike : (t : Term L) → words_in t ≡ [] → filled f t ≡ filled g t
     term_alike (Leaf w) e = absurd cc
     term_alike (Name at bytes) e = refl
     term_alike (Form at op parts) e = ap (Form at op) (all_alike parts e)
 
-    all_alike : (ts : Terms L) → all_words_in ts ≡ [] → all_replaced (λ at. at) f ts ≡ all_replaced (λ at. at) g ts
+    all_alike : (ts : Terms L) → all_words_in ts ≡ [] → all_filled f ts ≡ all_filled g ts
     all_alike nil e = refl
     all_alike (cons t ts) e =
         let (first, rest) = none_both (words_in t) (all_words_in ts) e in
@@ -237,13 +230,15 @@ module _ {L M : Type 0} (f g : L → M) where
         λ i. cons (p i) (q i)
 
 -- two instances of one statement without words
-pub one_content : (i : Kept) (a b k : ℕ) → SaysWritten i a → SaysWritten i b → IsWordless i a k → IsOfStatement i b k → content_at i (Some a) ≡ content_at i (Some b)
+pub one_content : (i : Kept) (a b k : ℕ) → says_as_written (item_at i a).keyword ≡ true → says_as_written (item_at i b).keyword ≡ true → IsWordless i a k → IsOfStatement i b k
+    → content_at i (Some a) ≡ content_at i (Some b)
 one_content i a b k first second wordless of =
     let p = placed_at i a in
     let q = placed_at i b in
     let same : p.standing.statement ≡ q.standing.statement = wordless.of ∙ sym of in
+    let here = said_terms (written_in i.0) (all_standing i.0) p p.standing.statement.statement.keyword p.standing.statement.statement.args first in
+    let there = said_terms (written_in i.0) (all_standing i.0) q q.standing.statement.statement.keyword q.standing.statement.statement.args second in
     ap (λ ts. content_of (behind ts))
-    (said_named (written_in i.0) (all_standing i.0) p p.standing.statement.statement.keyword p.standing.statement.statement.args first.written first.named
-    ∙ all_alike (word_at i a) (word_at i b) p.standing.statement.statement.args wordless.wordless
-    ∙ ap (λ (w : Written). all_replaced (λ at. at) (word_at i b) w.statement.args) same
-    ∙ sym (said_named (written_in i.0) (all_standing i.0) q q.standing.statement.statement.keyword q.standing.statement.statement.args second.written second.named))
+    (here.are ∙ all_alike here.term there.term p.standing.statement.statement.args wordless.wordless
+    ∙ ap (λ (w : Written). all_filled there.term w.statement.args) same
+    ∙ sym there.are)

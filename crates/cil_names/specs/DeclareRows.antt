@@ -1,23 +1,20 @@
 -- The rows from which the declared names are gathered: one for each declaration of each instance, and one for object_r.
 -- No other crate needs these words.
-use Rattle.std.specs.Prelude.{◌≡◌, ◌<◌, ◌⊎◌, ℕ, Bool, true, false, List, [], codes, length, Contains, Option, Some, None}
+use Rattle.std.specs.Prelude.{◌≡◌, ◌<◌, ◌⊎◌, ℕ, Bool, true, false, List, [], codes, length, map, Contains, Option, Some, None}
 use Rattle.std.specs.List.{list_all}
 use Rattle.cil_syntax.specs.declared.kind.Kind.TheVariants as kinds
 use Rattle.cil_faults.specs.declared.spot.Spot.{Spot}
-use Rattle.cil_syntax.specs.declared.term.Term as rust
-use Rattle.cil_syntax.specs.declared.term.Word.{Word}
 use Rattle.cil_syntax.specs.Forms.{BeginsWithName}
-use Rattle.cil_syntax.specs.Said.{all_said, said_of}
 use Rattle.cil_syntax.specs.Table.{entry_of}
-use Rattle.cil_syntax.specs.Terms.{Term, Terms, nil, cons}
-use Rattle.cil_syntax.specs.Scopes.{ScopedWord}
+use Rattle.cil_syntax.specs.Terms.{Terms, nil, cons}
 use Rattle.cil_blocks.specs.Namespaces.{IsNumber, space_at}
-use Rattle.cil_macros.specs.Item.{OptSet, all_replaced, replaced}
-use Rattle.cil_macros.specs.Items.{Kept, item_at, items_in, may_say_lists, namespaces_in, says_as_written, word_at}
-use Rattle.cil_names.specs.declared.content.Comparison.{Comparison}
-use Rattle.cil_names.specs.declared.content.ReadAt.{ReadAt}
+use Rattle.cil_macros.specs.declared.listed.Part as kept
+use Rattle.cil_macros.specs.Item.{OptSet}
+use Rattle.cil_macros.specs.Items.{Kept, item_at, items_in, namespaces_in}
+use Rattle.cil_macros.specs.Listed.{Part, closes, opens, part_there, text, word}
+use Rattle.cil_macros.specs.Placed.{Placed}
 use Rattle.cil_names.specs.declared.row.Row.{Row}
-use Rattle.cil_names.specs.Declarations.{Bare, Declaration, bare, content_of, declared_by, nowhere}
+use Rattle.cil_names.specs.Declarations.{Bare, Declaration, content_of, declared_by, nowhere}
 use Rattle.cil_names.specs.Entries.{Key}
 use Rattle.cil_syntax.specs.declared.name_space.NameSpace.TheVariants as name_spaces
 use Rattle.cil_syntax.specs.NameSpaces.{name_space, rank}
@@ -93,27 +90,23 @@ TellsDiffering i first rows false = (r : Row) → Contains rows r → AreAlike (
 
 -- ---- contents, as they are compared
 
--- the terms of a content of a module, without their places, where a word says this
-unfoldable pub bare_term : ℕ → (Word → ScopedWord) → rust.Term → Term Bare
-bare_term m f t = replaced (λ at. nowhere) bare (replaced (λ at. at) f (said_of m t))
+-- a part of what is said, at no place
+abbrev pub unplaced : Part → Part
+unplaced (word w) = word (record { at = nowhere; bytes = w.bytes; sign = w.sign; scope = w.scope })
+unplaced (text at bytes) = text nowhere bytes
+unplaced (opens at op) = opens nowhere op
+unplaced closes = closes
 
-unfoldable pub bare_terms : ℕ → (Word → ScopedWord) → List rust.Term → Terms Bare
-bare_terms m f ts = content_of (all_replaced (λ at. at) f (all_said m ts))
+-- the same of a part that is kept
+abbrev pub bare_part : List Placed → kept.Part → Part
+bare_part ps x = unplaced (part_there ps x)
 
--- the same of the instance that is read there
-abbrev pub bare_there : Kept → ReadAt → rust.Term → Term Bare
-bare_there i r t = bare_term r.«module» (word_at i r.at) t
+abbrev pub bare_parts : List Placed → List kept.Part → List Part
+bare_parts ps xs = map (bare_part ps) xs
 
-abbrev pub all_bare_there : Kept → ReadAt → List rust.Term → Terms Bare
-all_bare_there i r ts = bare_terms r.«module» (word_at i r.at) ts
-
--- there are such instances
-pub record AreThere (i : Kept) (c : Comparison) : Type 0 where
-  pub one : c.one.at < length (items_in i)
-  pub other : c.other.at < length (items_in i)
-
--- the instance at a place says what is written, each word as a word
-pub record SaysWritten (i : Kept) (k : ℕ) : Type 0 where
+-- what the instance at a place says begins with a name
+pub record IsNamed (i : Kept) (k : ℕ) : Type 0 where
   pub within : k < length (items_in i)
-  pub written : says_as_written (item_at i k).keyword ≡ true
-  pub named : may_say_lists (item_at i k).keyword ≡ false
+  pub spot : Spot
+  pub name : List ℕ
+  pub begins : BeginsWithName (item_at i k).args spot name

@@ -11,9 +11,8 @@ ghost use Rattle.cil_names.specs.Readings.{IsReading, item_read};
 ghost use Rattle.cil_names.specs.Resolves.{told_at, told_word, words_of};
 
 use crate::asked_parts::asked_in_parts;
-use crate::content::ReadAt;
 use crate::reading::{Reading, is_call, says_as_written};
-use crate::written_parts::written_parts;
+use crate::written_parts::{ReadAt, written_parts};
 use cil_base::NoMemory;
 use cil_macros::{Instances, Part, PlacedWord};
 use std::alloc::Global;
@@ -49,6 +48,23 @@ pub fn asked_at<'a>(
         statement: instances.statement_there(at),
     };
     reading.asked(alloc)
+}
+
+/// What the statement at a place says, part by part. It costs a step for each part, and for a call a search by halving.
+pub fn parts_at<'a>(
+    alloc: Global,
+    instances: &Instances<'_, '_, 'a>,
+    at: usize,
+) -> Result<Vec<Part<'a>>, NoMemory>
+    requires { at < length (items_in instances.now) }
+    ensures { IfOk result (λ parts. parts_there (all_placed instances.now) parts.items ≡ all_parts_of (item_at instances.now at).args) }
+{
+    let reading = Reading {
+        instances,
+        at,
+        statement: instances.statement_there(at),
+    };
+    reading.parts(alloc)
 }
 
 /// The word that is told of what some things ask for, by its number.

@@ -1,107 +1,108 @@
-//! What declarations say behind their names, compared without places.
+//! What declarations say behind their names, compared part by part and without places.
 
-ghost use Rattle.std.specs.Prelude.{◌≡◌, ◌↔◌, IfOk, IsTrue};
-ghost use Rattle.cil_syntax.specs.Said.{word_in};
-ghost use Rattle.cil_macros.specs.Items.{all_placed, namespaces_in, scope_by, scoped_by, word_at};
-ghost use Rattle.cil_macros.specs.Walks.{IsScope};
+ghost use Rattle.std.specs.Prelude.{◌≡◌, ◌↔◌, IfOk, IsTrue, List};
 ghost use Rattle.cil_syntax.specs.Scopes.{Scope};
-ghost use Rattle.cil_names.specs.Declarations.{bare};
-ghost use Rattle.cil_names.specs.DeclareRows.{AreThere, all_bare_there, bare_there};
+ghost use Rattle.cil_macros.specs.Items.{all_placed, namespaces_in, scope_by, scoped_by};
+ghost use Rattle.cil_macros.specs.Listed.{closes as said_closes, opens as said_opens, text as said_text, word as said_word};
+ghost use Rattle.cil_macros.specs.Placed.{Placed};
+ghost use Rattle.cil_macros.specs.Walks.{IsScope};
+ghost use Rattle.cil_names.specs.Declarations.{bare, nowhere};
+ghost use Rattle.cil_names.specs.DeclareRows.{bare_part, bare_parts, unplaced};
 
-use crate::written_parts::word_there;
 use cil_base::NoMemory;
 use cil_blocks::ScopeList;
-use cil_macros::{Instances, PlacedWord};
-use cil_syntax::{LookedUp, Op, Sign, Term};
+use cil_macros::{Instances, Part, PlacedWord};
+use cil_syntax::{Op, Sign};
 use std::alloc::Global;
 
-/// Where terms are read: the place of their instance, and the number of the module in which they are written.
-#[derive(Clone, Copy)]
-pub struct ReadAt {
-    pub at: usize,
-    pub module: u64,
-}
-
-/// Two instances whose terms are compared.
-#[derive(Clone, Copy)]
-pub struct Comparison {
-    pub one: ReadAt,
-    pub other: ReadAt,
-}
-
-/// Whether two lists of terms say the same, each at its instance. A looked-up word costs two scopes.
-#[cycle(a)]
-pub fn is_same_content<'a>(
+/// Whether some parts say the same as others, wherever they are written. It costs a step for each part, and two scopes for
+/// each word.
+pub fn are_same_parts<'a>(
     alloc: Global,
     instances: &Instances<'_, '_, 'a>,
-    both: &Comparison,
-    a: &[Term<'a>],
-    b: &[Term<'a>],
+    a: &[Part<'a>],
+    b: &[Part<'a>],
 ) -> Result<bool, NoMemory>
-    requires { AreThere instances.now both.now }
-    ensures { IfOk result (λ same. IsTrue same ↔ (all_bare_there instances.now both.now.one a.now ≡ all_bare_there instances.now both.now.other b.now)) }
+    ensures { IfOk result (λ same. IsTrue same ↔ (bare_parts (all_placed instances.now) a.now ≡ bare_parts (all_placed instances.now) b.now)) }
 {
     if a.len() != b.len() {
         return Ok(false);
     }
     for i in 0..a.len() {
-        if !is_same_term(alloc, instances, both, &a[i], &b[i])? {
+        if !is_same_part(alloc, instances, &a[i], &b[i])? {
             return Ok(false);
         }
     }
     Ok(true)
 }
 
-#[cycle(a)]
-fn is_same_term<'a>(
+fn is_same_part<'a>(
     alloc: Global,
     instances: &Instances<'_, '_, 'a>,
-    both: &Comparison,
-    a: &Term<'a>,
-    b: &Term<'a>,
+    a: &Part<'a>,
+    b: &Part<'a>,
 ) -> Result<bool, NoMemory>
-    requires { AreThere instances.now both.now }
-    ensures { IfOk result (λ same. IsTrue same ↔ (bare_there instances.now both.now.one a.now ≡ bare_there instances.now both.now.other b.now)) }
+    ensures { IfOk result (λ same. IsTrue same ↔ (bare_part (all_placed instances.now) a.now ≡ bare_part (all_placed instances.now) b.now)) }
 {
     match a {
-        Term::Leaf(word) => match b {
-            Term::Leaf(other) => is_same_word(alloc, instances, both, word, other),
-            Term::Name(_, _) => Ok(false),
-            Term::Form(_, _, _) => Ok(false),
-        },
-        Term::Name(_, name) => match b {
-            Term::Leaf(_) => Ok(false),
-            Term::Name(_, other) => Ok(is_same_text(name.as_slice(), other.as_slice())),
-            Term::Form(_, _, _) => Ok(false),
-        },
-        Term::Form(op, _, parts) => match b {
-            Term::Leaf(_) => Ok(false),
-            Term::Name(_, _) => Ok(false),
-            Term::Form(other, _, rest) => {
-                if !is_same_op(*op, *other) {
-                    return Ok(false);
-                }
-                is_same_content(alloc, instances, both, parts.as_slice(), rest.as_slice())
-            }
-        },
+        Part::Word(word) => is_word(alloc, instances, word, b),
+        Part::Text(_, text) => Ok(is_text(text.as_slice(), b)),
+        Part::Opens(_, op) => Ok(opens(*op, b)),
+        Part::Closes => Ok(closes(b)),
     }
 }
 
-/// Whether two words say the same, each at its instance.
-fn is_same_word<'a>(
+/// Whether a part is a word that says the same as this one.
+fn is_word<'a>(
     alloc: Global,
     instances: &Instances<'_, '_, 'a>,
-    both: &Comparison,
-    a: &LookedUp<'a>,
-    b: &LookedUp<'a>,
+    word: &PlacedWord<'a>,
+    part: &Part<'a>,
 ) -> Result<bool, NoMemory>
-    requires { AreThere instances.now both.now }
-    ensures { IfOk result (λ same. IsTrue same ↔ (bare (word_at instances.now both.now.one.at (word_in both.now.one.«module» a.now))
-        ≡ bare (word_at instances.now both.now.other.at (word_in both.now.other.«module» b.now)))) }
+    ensures { IfOk result (λ same. IsTrue same ↔ (unplaced (said_word (scoped_by (all_placed instances.now) word.now)) ≡ bare_part (all_placed instances.now) part.now)) }
 {
-    let here = word_there(instances, both.one, a);
-    let there = word_there(instances, both.other, b);
-    is_same_placed(alloc, instances, &here, &there)
+    match part {
+        Part::Word(other) => is_same_placed(alloc, instances, word, other),
+        Part::Text(_, _) => Ok(false),
+        Part::Opens(_, _) => Ok(false),
+        Part::Closes => Ok(false),
+    }
+}
+
+/// Whether a part is a string of these bytes.
+fn is_text(bytes: &[u8], part: &Part) -> bool
+    ensures { (ps : List Placed) → IsTrue result ↔ (said_text nowhere bytes.now ≡ bare_part ps part.now) }
+{
+    match part {
+        Part::Word(_) => false,
+        Part::Text(_, text) => is_same_text(bytes, text.as_slice()),
+        Part::Opens(_, _) => false,
+        Part::Closes => false,
+    }
+}
+
+/// Whether a list begins at a part whose items are joined so.
+fn opens(op: Op, part: &Part) -> bool
+    ensures { (ps : List Placed) → IsTrue result ↔ (said_opens nowhere op ≡ bare_part ps part.now) }
+{
+    match part {
+        Part::Word(_) => false,
+        Part::Text(_, _) => false,
+        Part::Opens(_, other) => is_same_op(op, *other),
+        Part::Closes => false,
+    }
+}
+
+/// Whether a list ends at a part.
+fn closes(part: &Part) -> bool
+    ensures { (ps : List Placed) → IsTrue result ↔ (said_closes ≡ bare_part ps part.now) }
+{
+    match part {
+        Part::Word(_) => false,
+        Part::Text(_, _) => false,
+        Part::Opens(_, _) => false,
+        Part::Closes => true,
+    }
 }
 
 /// Whether two words have the same bytes, want the same and are looked up in the same namespaces.

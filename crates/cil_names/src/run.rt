@@ -1,24 +1,25 @@
 //! Rows in the order of their keys, parted into runs of one key.
 
-ghost use Rattle.std.specs.Prelude.{◌≡◌, ◌↔◌, ◌<◌, ◌≤◌, [], ℕ, Contains, IfOk, IfSome, IsTrue, None, Some, drop, get_or, length, take};
+ghost use Rattle.std.specs.Prelude.{◌≡◌, ◌↔◌, ◌<◌, ◌≤◌, ℕ, Contains, IfOk, IfSome, IsTrue, None, Some, drop, get_or, length, take};
 ghost use Rattle.std.specs.declared.cmp.Ordering.TheVariants.{Less};
 ghost use Rattle.std.specs.List.Sorted.{IsPermutation, IsSortedByKey};
 ghost use Rattle.cil_syntax.specs.NameSpaces.{name_space};
 ghost use Rattle.cil_syntax.specs.declared.name_space.NameSpace.TheVariants as name_spaces;
-ghost use Rattle.cil_macros.specs.Items.{items_in, word_at};
+ghost use Rattle.cil_macros.specs.Items.{items_in};
 ghost use Rattle.cil_names.specs.declared.row.Row.{Row};
-ghost use Rattle.cil_names.specs.DeclareRows.{AreAlike, AreRowsIn, IsRow, SaysWritten, TellsDiffering, bare_terms, content_at, declaration_of, row_key};
+ghost use Rattle.cil_names.specs.DeclareRows.{AreAlike, AreRowsIn, IsNamed, IsRow, TellsDiffering, content_at, declaration_of, row_key};
 ghost use Rattle.cil_names.specs.DeclareRuns.{AreRuns, IsNextRun};
 ghost use Rattle.cil_names.specs.Entries.{by_name_cmp};
 ghost use Rattle.cil_names.specs.Worded.{IsOfStatement, IsWordless};
 
-use crate::content::{Comparison, ReadAt, is_same_content};
+use crate::asked::parts_at;
+use crate::content::are_same_parts;
 use crate::known::same_kind;
 use crate::reading::is_at;
 use crate::row::Row;
 use crate::worded::is_worded;
 use cil_base::NoMemory;
-use cil_macros::Instances;
+use cil_macros::{Instances, Part};
 use cil_syntax::{Kind, NameSpace, Term};
 use std::alloc::Global;
 
@@ -206,68 +207,44 @@ fn says_nothing(instances: &Instances, row: &Row) -> bool
     ensures { IsTrue result ↔ (content_at instances.now None ≡ content_at instances.now row.now.at) }
 {
     match row.at {
-        Some(at) => is_nothing(behind_name(instances, at).terms),
+        Some(at) => is_name_alone(instances.statement_there(at).args.as_slice()),
         None => true,
     }
 }
 
-fn is_nothing(terms: &[Term]) -> bool
-    ensures { IsTrue result ↔ (terms.now ≡ []) }
+/// Whether no term is behind the first, which is the declared name.
+fn is_name_alone(terms: &[Term]) -> bool
+    ensures { IsTrue result ↔ (length terms.now ≤ 1) }
 {
-    match terms {
-        [] => true,
-        [_, ..] => false,
-    }
+    terms.len() <= 1
 }
 
-/// Whether two instances say the same behind the declared name.
+/// Whether two instances say the same behind the declared name, which is one part. It costs a step for each part of both.
 fn is_same_there<'a>(
     alloc: Global,
     instances: &Instances<'_, '_, 'a>,
     a: usize,
     b: usize,
 ) -> Result<bool, NoMemory>
-    requires a { SaysWritten instances.now a }
-    requires b { SaysWritten instances.now b }
+    requires a { IsNamed instances.now a }
+    requires b { IsNamed instances.now b }
     ensures { IfOk result (λ same. IsTrue same ↔ (content_at instances.now (Some a) ≡ content_at instances.now (Some b))) }
 {
-    let one = behind_name(instances, a);
-    let other = behind_name(instances, b);
-    let both = Comparison {
-        one: one.reading,
-        other: other.reading,
-    };
-    is_same_content(alloc, instances, &both, one.terms, other.terms)
+    let one = parts_at(alloc, instances, a)?;
+    let other = parts_at(alloc, instances, b)?;
+    are_same_parts(
+        alloc,
+        instances,
+        behind_first(one.as_slice()),
+        behind_first(other.as_slice()),
+    )
 }
 
-/// Terms, and where they are read.
-#[derive(Clone, Copy)]
-struct Content<'t, 'a> {
-    reading: ReadAt,
-    terms: &'t [Term<'a>],
-}
-
-/// What the instance at a place says behind the declared name.
-fn behind_name<'p, 'a>(instances: &Instances<'_, 'p, 'a>, at: usize) -> Content<'p, 'a>
-    requires { SaysWritten instances.now at }
-    ensures there { result.reading.at ≡ at }
-    ensures says { content_at instances.now (Some at) ≡ bare_terms result.reading.«module» (word_at instances.now at) result.terms.now }
+fn behind_first<'t, 'a>(parts: &'t [Part<'a>]) -> &'t [Part<'a>]
+    ensures { result.now ≡ drop 1 parts.now }
 {
-    let statement = instances.statement_there(at);
-    Content {
-        reading: ReadAt {
-            at,
-            module: statement.at.module,
-        },
-        terms: behind_first(statement.args.as_slice()),
-    }
-}
-
-fn behind_first<'t, 'a>(terms: &'t [Term<'a>]) -> &'t [Term<'a>]
-    ensures { result.now ≡ drop 1 terms.now }
-{
-    match terms {
-        [] => terms,
+    match parts {
+        [] => parts,
         [_, rest @ ..] => rest,
     }
 }

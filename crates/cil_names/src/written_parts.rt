@@ -6,14 +6,20 @@ ghost use Rattle.cil_macros.specs.Items.{all_placed, items_in, scoped_by, word_a
 ghost use Rattle.cil_macros.specs.Listed.{all_parts_of, parts_of, parts_there};
 ghost use Rattle.cil_names.specs.Unresolved.{term_with, terms_with};
 
-use crate::content::ReadAt;
 use cil_base::NoMemory;
 use cil_macros::{Instances, Part, PlacedWord};
 use cil_syntax::{Excerpt, LookedUp, Spot, Term};
 use std::alloc::Global;
 
+/// Where terms are read: the place of their instance, and the number of the module in which they are written.
+#[derive(Clone, Copy)]
+pub struct ReadAt {
+    pub at: usize,
+    pub module: u64,
+}
+
 /// What a word says where it is read, and where it is looked up.
-pub fn word_there<'a>(
+fn word_there<'a>(
     instances: &Instances<'_, '_, 'a>,
     there: ReadAt,
     word: &LookedUp<'a>,

@@ -10,9 +10,9 @@ use Rattle.cil_syntax.specs.Program.{statement_of}
 use Rattle.cil_syntax.specs.Said.{args_of}
 use Rattle.cil_syntax.specs.Table.{entry_of}
 use Rattle.cil_syntax.specs.Terms.{Name, cons}
-use Rattle.cil_macros.specs.Items.{Kept, item_at, may_say_lists, placed_at, says_as_written}
+use Rattle.cil_macros.specs.Items.{Kept, item_at, placed_at, says_as_written}
 use Rattle.cil_names.specs.Declarations.{Declaration, declarations, declared_by}
-use Rattle.cil_names.proofs.DeclareRowLemmas.{declares_named, declares_written, without_kind, without_name}
+use Rattle.cil_names.proofs.DeclareRowLemmas.{declares_written, without_kind, without_name}
 use Rattle.cil_names.proofs.DeclareStatements.{begins_there, keyword_there, no_front, there}
 use Rattle.cil_optionals.specs.Counts.{declares, is_some_of}
 
@@ -39,15 +39,12 @@ module _ (i : Kept) (k : ℕ) where
       written : says_as_written (item_at i k).keyword ≡ true
       written = declares_written (item_at i k).keyword kind declared
 
-      named : may_say_lists (item_at i k).keyword ≡ false
-      named = declares_named (item_at i k).keyword kind declared
-
       pub no_name : name_in_front (args_of s) ≡ None → false ≡ declares (item_at i k)
-      no_name none = is_none (declared_by (item_at i k)) (without_name (item_at i k) (no_front i k s is written named none))
+      no_name none = is_none (declared_by (item_at i k)) (without_name (item_at i k) (no_front i k s is written none))
 
       pub declares_one : (at : Spot) (name : List ℕ) → BeginsWithName (args_of s) at name → true ≡ declares (item_at i k)
       declares_one at name begins =
-          let here = begins_there i k s is written named at name begins in
+          let here = begins_there i k s is written at name begins in
           sym (
           ap (λ args. is_some_of (declarations (item_at i k).space (entry_of (item_at i k).keyword).declares args)) here.1
           ∙ ap (λ ks. is_some_of (declarations (item_at i k).space ks (cons (Name at name) here.0))) kind_there

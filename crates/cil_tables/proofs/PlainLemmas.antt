@@ -21,18 +21,17 @@ use Rattle.cil_blocks.specs.declared.namespaces.Space.{Space}
 use Rattle.cil_blocks.specs.Namespaces.{space_at}
 use Rattle.cil_macros.specs.Calls.{IsPlaced, called, in_branch, in_optional, placed_cmp, stands}
 use Rattle.cil_macros.specs.Item.{Item, OptSet, everybody}
-use Rattle.cil_macros.specs.Items.{item_of, word_of}
+use Rattle.cil_macros.specs.Items.{item_of}
 use Rattle.cil_macros.specs.Placed.{Placed}
-use Rattle.cil_macros.proofs.ItemLemmas.{said_named}
+use Rattle.cil_macros.proofs.SaidTerms.{front_written, said_terms}
 use Rattle.cil_names.specs.declared.entry.Entry.{Entry}
 use Rattle.cil_names.specs.Declarations.{Declaration, Declared, IsDeclaration, Symbol, by, declared_by, name_of, object}
 use Rattle.cil_names.specs.Entries.{AreEntries}
 use Rattle.cil_names.specs.Numbers.{ArePlain, ArePlainNames}
 use Rattle.cil_names.proofs.DeclareDecided.{symbol_by}
-use Rattle.cil_names.proofs.DeclareRowLemmas.{declares_named, declares_written}
+use Rattle.cil_names.proofs.DeclareRowLemmas.{declares_written}
 use Rattle.cil_names.proofs.Qualified.{plain_name, spelled_one, turned_plain}
 use Rattle.cil_tables.proofs.WideClasses.{in_front, of_own_kind}
-use Rattle.cil_classes.proofs.WidthLemmas.{said_front}
 
 -- each is a name as the language has them
 abbrev pub AreNames : List (List ℕ) → Type 0
@@ -114,8 +113,8 @@ module _ (ws : List Written) (begun : AreBegun ws) where
         let args = p.standing.statement.statement.args in
         let kind = of_own_kind x.space (entry_of x.keyword).declares x.args d c in
         let front = in_front x.space (entry_of x.keyword).declares x.args d c in
-        let says = said_named ws ss p kw args (declares_written kw d.kind kind) (declares_named kw d.kind kind) in
-        let (more, e) = said_front (word_of ws p) args front.at d.name front.rest (sym says ∙ front.says) in
+        let said = said_terms ws ss p kw args (declares_written kw d.kind kind) in
+        let (more, e) = front_written args x.args said front.at d.name front.rest front.says in
         name_more d.name d.space (begins_with kw d.kind front.at d.name more kind (ap (is_begun kw) (sym e) ∙ begun p.standing.statement well.among))
         (subst AreNames (sym front.in_space) well.names)
 

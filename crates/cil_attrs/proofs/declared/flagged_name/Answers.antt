@@ -3,12 +3,11 @@ use Rattle.std.proofs.Common.{◌≡◌, ◌≤◌, ◌∙◌, ap, subst, sym}
 use Rattle.std.proofs.lemmas.Bool.{true≢false}
 use Rattle.cil_base.specs.Places.{get_contains}
 use Rattle.cil_blocks.specs.Namespaces.{space_at}
-use Rattle.cil_macros.specs.Items.{item_at, items_in, word_at}
+use Rattle.cil_macros.specs.Items.{item_at, items_in}
 use Rattle.cil_macros.proofs.ItemLemmas.{item_there}
-use Rattle.cil_macros.proofs.ItemsThere.{is_named, keyword_there}
+use Rattle.cil_macros.proofs.ItemsThere.{keyword_there}
 use Rattle.cil_names.specs.Entries.{HasNoEntryIn, IsEntryIn, is_in}
-use Rattle.cil_names.proofs.DeclareRowLemmas.{declares_named}
-use Rattle.cil_attrs.proofs.DeclaredLemmas.{flagged, left_out, no_entry, no_name, not_flagged, other_kind}
+use Rattle.cil_attrs.proofs.DeclaredLemmas.{flagged, left_out, no_entry, no_name, not_flagged, other_kind, said_so}
 use Rattle.cil_attrs.proofs.declared.flagged_name.Goals as goal
 
 pub entry-requires-clause-ordered : goal.entry-requires-clause-ordered
@@ -33,8 +32,8 @@ pub returns-in_default : goal.returns-in_default
 returns-in_default c = λ code.
     let i = c.args.instances.now in
     let s = c.statement_there-statement.result.now in
-    no_name c.args.lookup.now.namespaces.now c.args.lookup.now.names.now (items_in i) (is_in c.args.lookup.now.enabled.now) c.args.told.now.kind c.args.told.now.flags.now (item_at i c.args.at) s (word_at i c.args.at)
-    (is_named i c.args.at s c.statement_there-statement.ensures.is (declares_named s.keyword c.args.told.now.kind (c.declares.ensures.0 c.if-not-declares.false))) (c.declares.ensures.0 c.if-not-declares.false) c.in_default.ensures code
+    no_name c.args.lookup.now.namespaces.now c.args.lookup.now.names.now (items_in i) (is_in c.args.lookup.now.enabled.now) c.args.told.now.kind c.args.told.now.flags.now (item_at i c.args.at) s
+    (said_so i c.args.at s c.statement_there-statement.ensures.is) (c.declares.ensures.0 c.if-not-declares.false) c.in_default.ensures code
 
 pub returns-in_default-entry : goal.returns-in_default-entry
 returns-in_default-entry c = λ code.
@@ -44,7 +43,7 @@ returns-in_default-entry c = λ code.
     let x = item_at i c.args.at in
     let space : space_at ss c.space-space.result ≡ x.space = ap (λ z. space_at z c.space-space.result) c.requires.namespaces ∙ c.space-space.ensures.is in
     let name = c.in-Some.name in
-    no_entry ss c.args.lookup.now.names.now (items_in i) (is_in c.args.lookup.now.enabled.now) c.args.told.now.kind c.args.told.now.flags.now x s (word_at i c.args.at) (is_named i c.args.at s c.statement_there-statement.ensures.is (declares_named s.keyword c.args.told.now.kind (c.declares.ensures.0 c.if-not-declares.false)))
+    no_entry ss c.args.lookup.now.names.now (items_in i) (is_in c.args.lookup.now.enabled.now) c.args.told.now.kind c.args.told.now.flags.now x s (said_so i c.args.at s c.statement_there-statement.ensures.is)
     (c.declares.ensures.0 c.if-not-declares.false) name.at name.bytes.now c.in-Some.ensures c.args.told.now.sign c.requires.wanted c.requires.entries
     (subst (HasNoEntryIn ss c.args.lookup.now.names.now name.bytes.now c.args.told.now.sign) space c.in_default-entry.ensures) code
 
@@ -56,7 +55,7 @@ returns-then-not-is_flagged c = λ code.
     let x = item_at i c.args.at in
     let space : space_at ss c.space-space.result ≡ x.space = ap (λ z. space_at z c.space-space.result) c.requires.namespaces ∙ c.space-space.ensures.is in
     let name = c.in-Some.name in
-    not_flagged ss c.args.lookup.now.names.now (items_in i) (is_in c.args.lookup.now.enabled.now) c.args.told.now.kind c.args.told.now.flags.now x s (word_at i c.args.at) (is_named i c.args.at s c.statement_there-statement.ensures.is (declares_named s.keyword c.args.told.now.kind (c.declares.ensures.0 c.if-not-declares.false)))
+    not_flagged ss c.args.lookup.now.names.now (items_in i) (is_in c.args.lookup.now.enabled.now) c.args.told.now.kind c.args.told.now.flags.now x s (said_so i c.args.at s c.statement_there-statement.ensures.is)
     (c.declares.ensures.0 c.if-not-declares.false) name.at name.bytes.now c.in-Some.ensures c.args.told.now.sign c.requires.wanted c.requires.entries c.in-Some-entry.d
     (subst (λ n. IsEntryIn ss c.args.lookup.now.names.now name.bytes.now c.args.told.now.sign n c.in-Some-entry.d) space c.in-Some-entry.ensures) (sym c.is_flagged.ensures ∙ c.if-not-is_flagged.true) code
 
@@ -68,7 +67,7 @@ returns c = λ code.
     let x = item_at i c.args.at in
     let space : space_at ss c.space-space.result ≡ x.space = ap (λ z. space_at z c.space-space.result) c.requires.namespaces ∙ c.space-space.ensures.is in
     let name = c.in-Some.name in
-    flagged ss c.args.lookup.now.names.now (items_in i) (is_in c.args.lookup.now.enabled.now) c.args.told.now.kind c.args.told.now.flags.now x s (word_at i c.args.at) (is_named i c.args.at s c.statement_there-statement.ensures.is (declares_named s.keyword c.args.told.now.kind (c.declares.ensures.0 c.if-not-declares.false)))
+    flagged ss c.args.lookup.now.names.now (items_in i) (is_in c.args.lookup.now.enabled.now) c.args.told.now.kind c.args.told.now.flags.now x s (said_so i c.args.at s c.statement_there-statement.ensures.is)
     (c.declares.ensures.0 c.if-not-declares.false) name.at name.bytes.now c.in-Some.ensures c.args.told.now.sign c.requires.wanted c.requires.entries c.in-Some-entry.d
     (subst (λ n. IsEntryIn ss c.args.lookup.now.names.now name.bytes.now c.args.told.now.sign n c.in-Some-entry.d) space c.in-Some-entry.ensures)
     (get_contains (items_in i) c.args.at x (item_there i c.args.at c.requires.within)) (sym c.has_round.ensures ∙ c.if-not-has_round.false) (sym c.is_flagged.ensures ∙ c.if-not-is_flagged.false) code

@@ -21,5 +21,5 @@ returns c = λ at e.
     let unworded = sym (c.is_worded.ensures ∙ ap is_worded c.statement_there-statement.ensures.is) ∙ c.if-is_worded.false in
     subst (λ k. IsWordless i k c.statement.result) (same_Some c.in-Some.at at (sym c.in-Some.is ∙ e)) (record {
       of = c.statement.ensures (placed_at i c.in-Some.at) (placed_there i c.in-Some.at row.within);
-      wordless = no_word i c.in-Some.at unworded (row_written i c.in-Some.at c.args.row.now row).written;
+      wordless = no_word i c.in-Some.at unworded (row_written i c.in-Some.at c.args.row.now row);
     })
