@@ -103,14 +103,14 @@ def is_out_of_place(keyword, items, place):
     return has_shape and items[0].value != place.blocks[-1].name.value
 
 
-def refusal(node, place):
+def refusal(node, place, language):
     """The number and word of a statement's fault that is seen from outside, or nothing."""
     items = node.value
     if not items or items[0].kind != "word":
         return 23, b"-"
     keyword = items[0].value
-    if keyword not in ROWS and keyword not in SET_ASIDE:
-        return 22 if keyword in LEFT_OUT else 21, keyword
+    if keyword not in language.statements:
+        return 22 if keyword in ROWS or keyword in SET_ASIDE or keyword in LEFT_OUT else 21, keyword
     return (24, keyword) if is_out_of_place(keyword, items[1:], place) else None
 
 
@@ -125,7 +125,7 @@ class Reader:
         return [each for each in read if each]
 
     def statement(self, module, node, place):
-        refused, made = refusal(node, place), None
+        refused, made = refusal(node, place, self.language), None
         if not refused:
             try:
                 made = Statement(module, node, place, self.language)
@@ -140,8 +140,6 @@ class Reader:
         made.is_abstract = any(each.keyword == b"blockabstract" for each in made.body)
         if made.keyword == b"macro":
             made.faults += clashes_with_parameters(made)
-        if made.keyword not in self.language.statements:
-            made.faults.append((22, node.at, made.keyword))
         self.faults += [fault(code, module, at, place.space, word) for code, at, word in made.faults]
         return made
 

@@ -140,8 +140,8 @@ ARGUMENTS = {
 }
 KINDS = PLAIN_KINDS.union(ARGUMENTS)
 
-# What of it is accepted: the statements that have a meaning (the others are read, and 22); kinds of parameters; `all` and
-# operators in sets; names of class permissions; the requests CHECK and SET.
+# What of it is accepted: the statements that have a meaning (the others are 22); kinds of parameters; `all` and operators in
+# sets; names of class permissions; the requests CHECK and SET.
 Language = collections.namedtuple("Language", "statements kinds has_sets has_permission_names has_checks has_settings")
 
 WHOLE = Language(SET_ASIDE.union(ROWS), KINDS, True, True, True, True)

@@ -1,12 +1,15 @@
 -- What is told of blocks, and where.
 use Rattle.std.proofs.Common.{◌≡◌, ℕ, List, [], ◌∷◌, ◌++◌, map, refl, sym, ◌∙◌, ap, subst, inl, inr, append-nil}
-use Rattle.std.specs.Prelude.{◌↔◌, Contains, None}
+use Rattle.std.specs.Prelude.{◌↔◌, Contains, None, reverse}
 use Rattle.std.specs.List.{flat_map}
+use Rattle.std.proofs.lemmas.List.{map-append, reverse-append}
 use Rattle.std.proofs.lemmas.List.Elements.{Contains-append_left, Contains-append_right, Contains-append_cases}
+use denote.Ref.{Bor}
 use Rattle.cil_base.specs.Lists.{contains_cases, contains_here, contains_later, contains_none}
 use Rattle.cil_faults.specs.declared.code.FaultCode.{FaultCode}
 use Rattle.cil_faults.specs.declared.fault.Fault.{Fault}
 use Rattle.cil_syntax.specs.declared.term.Word.{Word}
+use Rattle.cil_syntax.specs.Around.{names_of}
 use Rattle.cil_syntax.specs.Forms.{name_in_front}
 use Rattle.cil_syntax.specs.Terms.{Leaf, Name, Form, Terms, nil, cons}
 use Rattle.cil_syntax.specs.Written.{Written, named_in_front}
@@ -14,6 +17,17 @@ use Rattle.cil_blocks.specs.Contents.{first_word}
 use Rattle.cil_blocks.specs.Entries.{nothing, statement_at}
 use Rattle.cil_blocks.specs.Reports.{AreNumbersOf, IsToldOf, fault_of_name, fault_of_word, name_fault, target_fault}
 use Rattle.cil_base.specs.Places.{get_at, get_contains, get_so, is_there, none_some}
+
+-- ---- lists
+
+reversed : {X Y : Type 0} (f : X → Y) (xs : List X) → map f (reverse xs) ≡ reverse (map f xs)
+reversed f [] = refl
+reversed f (x ∷ xs) =
+    ap (map f) (reverse-append (x ∷ []) xs) ∙ map-append f (reverse xs) (x ∷ []) ∙ ap (λ ys. ys ++ f x ∷ []) (reversed f xs)
+    ∙ sym (reverse-append (f x ∷ []) (map f xs))
+
+pub names_reversed : (names : List (Bor (List ℕ))) → names_of (reverse names) ≡ reverse (names_of names)
+names_reversed names = reversed (λ (b : Bor (List ℕ)). b.now) names
 
 -- ---- the faults of one statement
 

@@ -10,10 +10,8 @@ use Rattle.cil_base.specs.Lists.{contains_here}
 use Rattle.cil_syntax.specs.declared.term.Op.{Op}
 use Rattle.cil_syntax.specs.declared.term.Op.TheVariants as ops
 use Rattle.cil_syntax.specs.declared.term.Word.{Word}
-use Rattle.cil_syntax.specs.declared.program.AllRead.{AllRead}
 use Rattle.cil_syntax.specs.declared.program.Statement as rust
-use Rattle.cil_syntax.specs.AllRead.{IsAllRead}
-use Rattle.cil_syntax.specs.Depths.{AllNest, AreShallow, IsProgram, Nests, below, most_nested}
+use Rattle.cil_syntax.specs.Depths.{AllNest, AreShallow, Nests, below, most_nested}
 use Rattle.cil_syntax.specs.Grammar.{Fits, name, word, single, every, headed, headless, exact, left, right, bracketed, begun, any_word, any_string, any_list, text_word, text_string, object_word, object_string, FitsRow, closed, one, no_more, more, as_many, not_as_many, led_by, not_led, body, whatever}
 use Rattle.cil_syntax.specs.Program.{program_of}
 use Rattle.cil_syntax.specs.Heads.{other_op, other_row}
@@ -21,7 +19,6 @@ use Rattle.cil_syntax.specs.Shapes.{Row, Shape, many, unread}
 use Rattle.cil_syntax.specs.Table.{Body, plain, behind, branched, entry_of}
 use Rattle.cil_syntax.specs.Terms.{Term, Leaf, Name, Form, Terms, nil, cons, spot_of}
 use Rattle.cil_syntax.specs.Written.{Context, Written, FoundIn, top, inside, IsItem, first, later, IsWritten, written, FormFault, inner, fault_of, skipped, beside, all_behind_first, within, body_of}
-use Rattle.cil_syntax.proofs.Nested.{nested}
 use Rattle.cil_syntax.proofs.SpelledSo.{read_as_spelled}
 
 -- ---- what nests so deep nests deeper
@@ -180,15 +177,7 @@ module _ (modules : List (List ℕ)) where
       let inside_of_it = subst (NodesNest most_nested) spelled.begins (inner_nests most_nested n (found_nests m context n found)) in
       row_nests m most_nested spelled.entry.row spelled.rest s.args inside_of_it.1 spelled.fits
   written_nests clean w (written m context n s (i ∷ is) found verdict) =
-      absurd (clean (fault_of m context i) (inner m context n s (i ∷ is) i found verdict (contains_here i is)))
+      absurd (clean (fault_of m context i) (inner m context n s (i ∷ is) i found refl verdict (contains_here i is)))
 
   pub shallow : ((f : Fault) → FormFault modules f → ⊥) → (ss : List rust.Statement) → ((w : Written) → Contains (program_of ss) w → IsWritten modules w) → AreShallow ss
   shallow clean ss all = λ w c. written_nests clean w (all w c)
-
--- ---- what is kept of modules without a fault of form
-
-pub is_program : (modules : List (List ℕ)) (all : AllRead) → IsAllRead modules all → ((f : Fault) → FormFault modules f → ⊥) → IsProgram all.statements.items
-is_program modules all r clean = record {
-  nested = nested modules clean all.statements.items r.under r.read.rising (λ w there. (r.read.stated w there).0);
-  shallow = shallow modules clean all.statements.items (λ w there. (r.read.stated w there).0);
-}

@@ -133,7 +133,7 @@ module _ (modules : List (List ℕ)) (clean : (f : Fault) → FormFault modules 
         begun_so = begun s.keyword m spelled.rest s.args (subst (λ r. FitsRow m r spelled.rest s.args) (sym row) spelled.fits);
       }
   in_place w (written m context n s (i ∷ is) found verdict) =
-      absurd (clean (fault_of m context i) (inner m context n s (i ∷ is) i found verdict (contains_here i is)))
+      absurd (clean (fault_of m context i) (inner m context n s (i ∷ is) i found refl verdict (contains_here i is)))
 
   pub nested : (ss : List program.Statement) → AreUnder ss → IsStrictlySortedBy written_cmp (program_of ss) → ((w : Written) → Contains (program_of ss) w → IsWritten modules w) → IsNested ss
   nested ss under rising all = record {

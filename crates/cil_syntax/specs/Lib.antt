@@ -1,4 +1,3 @@
-pub mod AllRead
 pub mod Around
 pub mod Depths
 pub mod Entries

@@ -42,7 +42,6 @@ mod stop;
 mod table;
 mod term;
 mod term_forms;
-mod to_come;
 mod type_statements;
 mod unsupported;
 mod user_statements;

@@ -70,7 +70,7 @@ impl Nesting {
 
 impl Keyword {
     /// Whether the statement is a block.
-    pub(crate) fn is_block(self) -> bool
+    fn is_block(self) -> bool
         ensures { result ≡ is_block self }
     {
         matches!(self, Keyword::Block)
@@ -204,7 +204,7 @@ impl<'a> Place<'a> {
 }
 
 /// The bytes of the name in front of some terms. A word or a list has none.
-pub(crate) fn first_name<'a>(terms: &[Term<'a>]) -> &'a [u8]
+fn first_name<'a>(terms: &[Term<'a>]) -> &'a [u8]
     ensures { (m : ℕ) → result.now ≡ bytes_of (named_in_front (all_said m terms.now)) }
 {
     match name_of_front(terms) {

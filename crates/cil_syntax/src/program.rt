@@ -1,24 +1,22 @@
 //! The written statements of a set of modules.
 
-ghost use Rattle.std.specs.Prelude.{◌≡◌, ◌++◌, ◌∷◌, [], IfOk, OnOk};
+ghost use Rattle.std.specs.Prelude.{◌≡◌, ◌++◌, ◌∷◌, [], OnOk};
 ghost use Rattle.cil_base.specs.Lists.{Lists};
 ghost use Rattle.cil_sexpr.specs.Text.{IsReadable};
 ghost use Rattle.cil_sexpr.specs.Tree.{inner_of};
 ghost use Rattle.cil_sexpr.specs.View.{node_of, nodes_of};
-ghost use Rattle.cil_syntax.specs.AllRead.{IsAllRead};
 ghost use Rattle.cil_syntax.specs.Entries.{body_of};
 ghost use Rattle.cil_syntax.specs.Program.{program_of};
 ghost use Rattle.cil_faults.specs.Refusal.{Answers};
 ghost use Rattle.cil_syntax.specs.Standpoints.{forked, found_behind, found_from, found_inside, opened, opening_by};
 ghost use Rattle.cil_syntax.specs.Told.{AreJudgedHere, IsModuleRead, StandsIn};
-ghost use Rattle.cil_syntax.specs.Written.{FormFault, IsWritten, ShapeFault, at_top, written_cmp};
+ghost use Rattle.cil_syntax.specs.Written.{FaultOfShape, FormFault, IsWritten, ShapeFault, at_top, written_cmp};
 
 use crate::entry::Body;
 use crate::kind::Keyword;
 use crate::place::Place;
 use crate::reader::Reader;
 use crate::term::Term;
-use crate::to_come::report_to_come;
 use cil_base::NoMemory;
 use cil_faults::{Failure, Fault, FaultList, Spot};
 use cil_modset::ModuleSet;
@@ -85,39 +83,20 @@ impl<'a> Program<'a> {
 pub fn written(alloc: Global, modules: &ModuleSet) -> Result<Program<'_>, Failure>
     ensures { Answers (λ p. Lists written_cmp (IsWritten modules.now) (program_of p)) (ShapeFault modules.now) result }
 {
-    let AllRead {
-        statements,
-        mut faults,
-    } = read_all(alloc, modules)?;
-    report_to_come(alloc, statements.as_slice(), &mut faults)?;
-    match FaultList::of(faults) {
-        Some(list) => Err(Failure::Faults(list)),
-        None => Ok(Program { statements }),
-    }
+    read_program(alloc, modules, true)
 }
 
-/// The same, with the statements whose meaning is still to come: for crates that give them one, and their tests. No policy is
+/// The same, with the statements whose meaning is still to come: for crates that give them one, and for tests. No policy is
 /// compiled from it.
 pub fn all_written(alloc: Global, modules: &ModuleSet) -> Result<Program<'_>, Failure>
     ensures { Answers (λ p. Lists written_cmp (IsWritten modules.now) (program_of p)) (FormFault modules.now) result }
 {
-    let AllRead { statements, faults } = read_all(alloc, modules)?;
-    match FaultList::of(faults) {
-        Some(list) => Err(Failure::Faults(list)),
-        None => Ok(Program { statements }),
-    }
+    read_program(alloc, modules, false)
 }
 
-/// The statements of modules, and what is wrong with the form of them and of their words.
-#[derive(Drop)]
-struct AllRead<'a> {
-    statements: Vec<Statement<'a>>,
-    faults: Vec<Fault>,
-}
-
-/// Reads all modules.
-fn read_all(alloc: Global, modules: &ModuleSet) -> Result<AllRead<'_>, NoMemory>
-    ensures { IfOk result (IsAllRead modules.now) }
+/// Reads all modules. It is told whether statements whose meaning is still to come are refused.
+fn read_program(alloc: Global, modules: &ModuleSet, refuses: bool) -> Result<Program<'_>, Failure>
+    ensures { Answers (λ p. Lists written_cmp (IsWritten modules.now) (program_of p)) (FaultOfShape refuses modules.now) result }
 {
     // That a text has one tree makes what was read what is written.
     texts::one_tree();
@@ -130,10 +109,14 @@ fn read_all(alloc: Global, modules: &ModuleSet) -> Result<AllRead<'_>, NoMemory>
             text: modules.get(i),
             number: i as u64,
             place: &top,
+            refuses,
         };
         reader.read_module(&mut statements, &mut faults)?;
     }
-    Ok(AllRead { statements, faults })
+    match FaultList::of(faults) {
+        Some(list) => Err(Failure::Faults(list)),
+        None => Ok(Program { statements }),
+    }
 }
 
 impl<'r, 'a> Reader<'r, 'a> {
@@ -145,7 +128,7 @@ impl<'r, 'a> Reader<'r, 'a> {
     ) -> Result<(), NoMemory>
         requires readable { IsReadable self.now.text.now }
         requires top { StandsIn at_top self.now.place.now statements.old.items }
-        ensures { OnOk result (IsModuleRead self.now.number self.now.text.now statements.old.items statements.new.items faults.old.items faults.new.items) }
+        ensures { OnOk result (IsModuleRead self.now.refuses self.now.number self.now.text.now statements.old.items statements.new.items faults.old.items faults.new.items) }
     {
         texts::never_both();
         match read(self.alloc, self.text) {
@@ -216,7 +199,7 @@ impl<'r, 'a> Reader<'r, 'a> {
     ) -> Result<(), NoMemory>
         ensures { OnOk result (AreJudgedHere self.now (λ context. found_from self.now.number context (node_of self.now.text.now node.now)) statements.old.items statements.new.items faults.old.items faults.new.items) }
     {
-        let Some(statement) = self.judge(node, faults)? else {
+        let Some(statement) = self.judge_node(node, faults)? else {
             return Ok(());
         };
         let Some(body) = statement.keyword.body() else {
@@ -231,6 +214,7 @@ impl<'r, 'a> Reader<'r, 'a> {
             text: self.text,
             number: self.number,
             place: &place,
+            refuses: self.refuses,
         };
         reader.judge_body(node, body, statements, faults)
     }

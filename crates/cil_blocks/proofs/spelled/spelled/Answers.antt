@@ -2,7 +2,7 @@ use Rattle.std.proofs.Common.{◌∙◌, ap}
 use Rattle.std.specs.Prelude.{reverse}
 use Rattle.std.specs.List.{join_with_byte}
 use Rattle.cil_syntax.specs.Around.{names_of}
-use Rattle.cil_syntax.proofs.PlaceLemmas.{names_reversed}
+use Rattle.cil_blocks.proofs.ReportLemmas.{names_reversed}
 use Rattle.cil_blocks.proofs.spelled.spelled.Goals as goal
 
 pub returns : goal.returns
