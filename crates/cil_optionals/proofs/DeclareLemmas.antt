@@ -10,7 +10,7 @@ use Rattle.cil_syntax.specs.Program.{statement_of}
 use Rattle.cil_syntax.specs.Said.{args_of}
 use Rattle.cil_syntax.specs.Table.{entry_of}
 use Rattle.cil_syntax.specs.Terms.{Name, cons}
-use Rattle.cil_macros.specs.Items.{Kept, item_at, placed_at, says_as_written}
+use Rattle.cil_macros.specs.Items.{Kept, item_at, says_as_written}
 use Rattle.cil_names.specs.Declarations.{Declaration, declarations, declared_by}
 use Rattle.cil_names.proofs.DeclareRowLemmas.{declares_written, without_kind, without_name}
 use Rattle.cil_names.proofs.DeclareStatements.{begins_there, keyword_there, no_front, there}
