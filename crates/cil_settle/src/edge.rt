@@ -44,7 +44,7 @@ fn end_of(edges: &[Edge], from: usize) -> usize
     edges.partition_point(|edge| edge.from <= from)
 }
 
-/// The edges that leave one node. The edges are sorted by the nodes that they leave.
+/// The edges that leave one node. The edges are sorted by the nodes that they leave. It costs two searches by halving.
 pub fn leaving_from(edges: &[Edge], from: usize) -> &[Edge]
     requires { IsNonDecreasingBy (λ e. e.from) edges.now }
     ensures { result.now ≡ leaving from edges.now }

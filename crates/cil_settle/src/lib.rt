@@ -21,7 +21,7 @@ mod settled;
 mod supports;
 
 pub use cycles::{Cycles, cycles_of, guessed_cycles};
-pub use edge::{Edge, sort_edges};
+pub use edge::{Edge, leaving_from, sort_edges};
 pub use flow::spread;
 pub use plain::searched_cycles;
 pub use settled::{Settled, settle};
