@@ -2,6 +2,7 @@ pub mod BitLemmas
 pub mod ChainLemmas
 pub mod DominanceLemmas
 pub mod EdgeLemmas
+pub mod HashLemmas
 pub mod ItemLemmas
 pub mod LevelLemmas
 pub mod NameLemmas

@@ -1,9 +1,17 @@
--- Items as they are read: which text is none, and what one adds.
-use Rattle.std.specs.Prelude.{◌≡◌, ℕ, ◌<◌, List}
-use Rattle.std.proofs.Common.{sym, subst, arith}
+-- Texts that are no items.
+use Rattle.std.specs.Prelude.{◌≡◌, ◌↔◌, ℕ, ◌<◌, ◌≤◌, Bool, true, false, IsTrue, List}
+use Rattle.std.proofs.Common.{sym, ◌∙◌, subst, inl, inr, arith}
+use Rattle.std.proofs.lemmas.Bool.{cases_lt}
 use Rattle.cil_mls.specs.LevelTexts.{IsParted, IsWithout, one, from_to}
 use Rattle.cil_mls.specs.Reading.{IsNoItem}
 use Rattle.cil_mls.proofs.PartLemmas.{not_parted, parted_once}
+
+-- what is not upwards leads down
+pub before : (first last : ℕ) (r : Bool) → IsTrue r ↔ (first ≤ last) → r ≡ false → last < first
+before first last r is e = elim (cases_lt last first) [
+  | inl less ↦ less
+  | inr ge ↦ absurd (let t : r ≡ true = is.1 ge in let f : false ≡ true = sym e ∙ t in cc)
+]
 
 module _ (Category : List ℕ → ℕ → Type 0) where
   -- a text that is no name, or whose first or second part is none, is no item

@@ -1,6 +1,7 @@
 pub mod Bits
 pub mod Dominance
 pub mod Edges
+pub mod Hashed
 pub mod Laws
 pub mod LevelTexts
 pub mod Names

@@ -1,16 +1,20 @@
 //! Sets of categories.
 
 ghost use Rattle.std.specs.Prelude.{not, ◌≡◌, ◌↔◌, ◌<◌, ◌≤◌, ℕ, IsTrue, true, false, ◌||◌, ◌&&◌, ltb};
+ghost use Rattle.std.specs.Cmp.Rules.{hashing};
+ghost use Rattle.std.proofs.Common.{rules};
 ghost use Rattle.cil_mls.specs.Bits.{differ, in_words, is_between};
+ghost use Rattle.cil_mls.specs.Hashed.{hashed};
 
-use crate::words::{bit_in, bits_between, covers};
+use crate::words::{bit_in, bits_between, covers, hash_word};
+use std::hash::{Hash, Hasher};
 
 /// How many categories a policy may have.
 pub const MOST_CATEGORIES: usize = 1024;
 
 /// A set of categories, each by its place in the one order of all: a number below 1,024. Bit `c % 64` of the word `c / 64` says
 /// whether `c` is in it. No operation takes memory, and each costs a step for each of the 16 words at most.
-#[derive(Clone, Copy, Debug, PartialEq, Eq, Hash)]
+#[derive(Clone, Copy, Debug, PartialEq, Eq)]
 pub struct Categories {
     /// The words, those of the lowest categories first.
     pub words: [u64; 16],
@@ -108,5 +112,20 @@ impl Categories {
     {
         let all = Categories::first(count);
         all.apart(&self.common(&all))
+    }
+}
+
+impl Hash for Categories {
+    ghost hash_input = { λ set. hashed 0 set.words };
+
+    ghost respects_eq = { Prim.search (hashing, rules) };
+
+    /// Writes the place and the bits of each word that is not 0, and then an end. So sets that differ write different things, and
+    /// most sets write little.
+    fn hash<H: Hasher>(&self, state: &mut H) {
+        for at in 0..16 {
+            hash_word(state, at, self.words[at]);
+        }
+        state.write_u8(16);
     }
 }

@@ -1,6 +1,6 @@
 //! Levels and ranges, read from text.
 
-ghost use Rattle.std.specs.Prelude.{◌≡◌, ◌<◌, ℕ, MatchOption};
+ghost use Rattle.std.specs.Prelude.{◌↔◌, ◌<◌, ◌≤◌, ℕ, IsTrue, MatchOption};
 ghost use Rattle.std.specs.Bool.{MatchBool};
 ghost use Rattle.cil_mls.specs.declared.level.Level as a_level;
 ghost use Rattle.cil_mls.specs.LevelTexts.{AreItems, IsItem, IsLevelText, IsRangeText};
@@ -125,11 +125,18 @@ fn span_of(names: &[Named], item: &[u8]) -> Option<Span>
         Some(parts) => {
             let first = place_of(names, parts.first)?;
             let last = place_of(names, parts.rest)?;
-            if first <= last {
+            if is_upwards(first, last) {
                 Some(Span { first, last })
             } else {
                 None
             }
         }
     }
+}
+
+/// Whether a span is from one category to the same or a later one.
+fn is_upwards(first: usize, last: usize) -> bool
+    ensures { IsTrue result ↔ (first ≤ last) }
+{
+    first <= last
 }

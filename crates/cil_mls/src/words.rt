@@ -1,7 +1,10 @@
 //! Words of 64 bits, as parts of a set of categories.
 
-ghost use Rattle.std.specs.Prelude.{◌*◌, ◌+◌, ◌≡◌, ◌↔◌, ◌<◌, ◌≤◌, IsTrue, ℕ};
+ghost use Rattle.std.specs.Prelude.{◌*◌, ◌+◌, ◌≡◌, ◌↔◌, ◌<◌, ◌≤◌, IsTrue, fold, ℕ};
 ghost use Rattle.std.specs.Int.{bit_at};
+ghost use Rattle.cil_mls.specs.Hashed.{hashed_word};
+
+use std::hash::Hasher;
 
 /// Whether a word has all bits of another.
 pub fn covers(word: u64, other: u64) -> bool
@@ -28,4 +31,16 @@ pub fn bits_between(first: u32, end: u32) -> u64
         return 0;
     }
     (u64::MAX << first) & (u64::MAX >> (64 - end))
+}
+
+/// Writes the place and the bits of a word to a hasher, and nothing of a word that is 0.
+pub fn hash_word<H: Hasher>(state: &mut H, at: usize, word: u64)
+    requires { at < 16 }
+    ensures { state.new ≡ fold H.write state.old (hashed_word at word) }
+{
+    if word == 0 {
+        return;
+    }
+    state.write_u8(at as u8);
+    state.write_u64(word);
 }

@@ -1,8 +1,8 @@
-use Rattle.std.proofs.Common.{arith, ◌<◌, ◌≤◌}
+use Rattle.std.proofs.Common.{◌<◌}
 use Rattle.cil_mls.specs.Names.{IsNamed}
 use Rattle.cil_mls.specs.LevelTexts.{one, from_to}
 use Rattle.cil_mls.proofs.NameLemmas.{named_once, named_within}
-use Rattle.cil_mls.proofs.SpanLemmas.{no_high, no_low, no_single, not_upwards}
+use Rattle.cil_mls.proofs.SpanLemmas.{before, no_high, no_low, no_single, not_upwards}
 use Rattle.cil_mls.proofs.texts.span_of.Goals as goal
 
 pub returns-in_err-only-in-None : goal.returns-in_err-only-in-None
@@ -22,15 +22,14 @@ returns-in_ok-only-in-None c = (
   named_within c.args.names.now 1024 c.requires.within c.args.item.now c.in_ok-only-in-None.only c.in_ok-only-in-None.ensures,
 )
 
-pub returns-then-first-last : goal.returns-then-first-last
-returns-then-first-last c =
-    let up : c.in_ok-first-in-Some.first ≤ c.in_ok-last-in-Some.last = omega (arith, c.if-first-last.true) in (
-      from_to c.args.item.now _ _ _ _ c.in-Some.ensures c.in_ok-first-in-Some.ensures c.in_ok-last-in-Some.ensures up,
-      named_within c.args.names.now 1024 c.requires.within _ _ c.in_ok-last-in-Some.ensures,
-    )
+pub returns-then-is_upwards : goal.returns-then-is_upwards
+returns-then-is_upwards c = (
+  from_to c.args.item.now _ _ _ _ c.in-Some.ensures c.in_ok-first-in-Some.ensures c.in_ok-last-in-Some.ensures (c.is_upwards.ensures.0 c.if-is_upwards.true),
+  named_within c.args.names.now 1024 c.requires.within _ _ c.in_ok-last-in-Some.ensures,
+)
 
-pub returns-else-first-last : goal.returns-else-first-last
-returns-else-first-last c =
-    let down : c.in_ok-last-in-Some.last < c.in_ok-first-in-Some.first = omega (arith, c.if-first-last.false) in
+pub returns-else-is_upwards : goal.returns-else-is_upwards
+returns-else-is_upwards c =
+    let down : c.in_ok-last-in-Some.last < c.in_ok-first-in-Some.first = before _ _ _ c.is_upwards.ensures c.if-is_upwards.false in
     not_upwards (IsNamed c.args.names.now) (named_once c.args.names.now c.requires.rising) c.args.item.now _ _ _ _ c.in-Some.ensures
     c.in_ok-first-in-Some.ensures c.in_ok-last-in-Some.ensures down
