@@ -1,7 +1,7 @@
 //! Laws of the definitions. The functions do nothing when they are called; the contract of each is a law, and a proof that needs
 //! the law calls the function.
 
-ghost use Rattle.cil_mls.specs.Laws.{DominanceIsTested, HasOneLevel, HasOneOrder, SameAreEqual};
+ghost use Rattle.cil_mls.specs.Laws.{DominanceIsTested, HasOneLevel, HasOneOrder, SameAreEqual, WritesTellApart};
 
 /// Edges fix at most one order of the numbers below a count.
 pub fn one_order()
@@ -16,6 +16,11 @@ pub fn dominance_is_tested()
 /// Levels with the same sensitivity and the same categories are equal.
 pub fn same_are_equal()
     ensures { SameAreEqual }
+{}
+
+/// Sets of categories that write the same to a hasher are equal.
+pub fn writes_tell_apart()
+    ensures { WritesTellApart }
 {}
 
 /// A text is at most one level.
