@@ -1,0 +1,14 @@
+pub mod BitLemmas
+pub mod ChainLemmas
+pub mod DominanceLemmas
+pub mod EdgeLemmas
+pub mod HashLemmas
+pub mod ItemLemmas
+pub mod LevelLemmas
+pub mod NameLemmas
+pub mod OrderLemmas
+pub mod PartLemmas
+pub mod RisingLemmas
+pub mod SameLemmas
+pub mod SpanLemmas
+pub mod WordLemmas

@@ -1,0 +1,10 @@
+pub mod Bits
+pub mod Dominance
+pub mod Edges
+pub mod Hashed
+pub mod Laws
+pub mod LevelTexts
+pub mod Names
+pub mod OrderSteps
+pub mod Orders
+pub mod Reading

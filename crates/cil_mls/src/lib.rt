@@ -1,0 +1,30 @@
+//! Levels of multi-level security: the order of sensitivities and categories, sets of categories, levels, and the texts of
+//! levels and ranges. The CIL Reference Guide has them in "Multi-Level Security Labeling Statements", The SELinux Notebook in
+//! "Multi-Level Security and Multi-Category Security".
+//!
+//! Start at `level.rt`: a `Level` is a sensitivity and a set of categories (`categories.rt`), all by their places in two orders.
+//! `order_of`, in `order.rt`, finds the one order that statements fix; `specs/Orders.antt` says which orders are right.
+//! `specs/Dominance.antt` says which level dominates which. `LevelNames`, in `level_names.rt`, reads the text of a level or a range
+//! (`specs/LevelTexts.antt`). `laws.rt` says that an order and the level of a text are one. Statements are not read here, and no
+//! crate calls this one yet.
+#![tactic(auto)]
+
+mod categories;
+pub mod laws;
+mod level;
+mod level_names;
+#[cfg(test)]
+mod level_tests;
+mod named;
+mod order;
+mod parts;
+#[cfg(test)]
+mod tests;
+mod texts;
+mod words;
+
+pub use categories::{Categories, MOST_CATEGORIES};
+pub use level::{Level, Range};
+pub use level_names::{LevelNames, MOST_SENSITIVITIES};
+pub use named::Named;
+pub use order::order_of;
