@@ -18,8 +18,7 @@ mod level_rows;
 mod look_up_rows;
 #[cfg(test)]
 mod look_ups;
-#[cfg(test)]
-mod made_names;
+pub mod made_names;
 #[cfg(test)]
 mod optional_choices;
 #[cfg(test)]

@@ -12,7 +12,7 @@ use cil_names::{Entry, Names};
 use std::alloc::Global;
 
 /// The declared names with these entries; none where they do not rise, or one is in none of the namespaces. Error: out of memory.
-pub(crate) fn names_with<'a>(
+pub fn names_with<'a>(
     alloc: Global,
     namespaces: &Namespaces,
     entries: Vec<Entry<'a>>,
@@ -57,7 +57,7 @@ fn are_within(namespaces: &Namespaces, entries: &[Entry]) -> bool
 }
 
 /// Whether these are numbers of namespaces.
-pub(crate) fn are_numbers(namespaces: &Namespaces, numbers: &[usize]) -> bool
+pub fn are_numbers(namespaces: &Namespaces, numbers: &[usize]) -> bool
     ensures { IsTrue result ↔ All (λ k. k ≤ length namespaces.now) numbers.now }
 {
     let most = namespaces.len();

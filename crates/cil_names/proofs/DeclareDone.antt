@@ -9,7 +9,6 @@ use Rattle.std.proofs.lemmas.Option.{same_Some}
 use Rattle.cil_base.specs.MadeLists.{contains_flat, from_flat}
 use Rattle.cil_syntax.specs.declared.kind.Kind.TheVariants as kinds
 use Rattle.cil_syntax.specs.Terms.{nil}
-use Rattle.cil_blocks.specs.Namespaces.{AreNamespaces}
 use Rattle.cil_blocks.proofs.NamespaceLemmas.{global_at}
 use Rattle.cil_macros.specs.Item.{Item, OptSet, is_enabled}
 use Rattle.cil_macros.specs.Items.{Kept, item_at, items_in, namespaces_in}
@@ -18,7 +17,7 @@ use Rattle.cil_names.specs.declared.row.Row.{Row}
 use Rattle.cil_names.specs.declared.run.Run.{Run}
 use Rattle.cil_names.specs.Declarations.{Declaration, IsDeclaration, by, declared_by, object, object_role}
 use Rattle.cil_names.specs.DeclareRows.{AreAllRows, IsRow, IsRowAt, declaration_of, is_row_enabled, object_row, round_at}
-use Rattle.cil_names.specs.DeclareRuns.{AreRuns, rows_in}
+use Rattle.cil_names.specs.DeclareRuns.{AreRunsOf, rows_in}
 use Rattle.cil_names.proofs.DeclareRowLemmas.{row_declares}
 
 -- ---- items by their places
@@ -58,12 +57,6 @@ module _ (i : Kept) (rows : List Row) (all : AreAllRows i rows) where
 
 -- ---- the rows of runs
 
--- the runs are those of the rows of all instances
-pub record AreRunsOf (i : Kept) (rows : List Row) (runs : List Run) : Type 0 where
-  pub namespaces : AreNamespaces (namespaces_in i)
-  pub all : AreAllRows i rows
-  pub are : AreRuns i rows runs
-
 module _ (i : Kept) (rows : List Row) (runs : List Run) (of : AreRunsOf i rows runs) where
   pub in_rows : (run : Run) (r : Row) → Contains runs run → Contains run.rows.now r → Contains rows r
   in_rows run r c d = subst (λ z. Contains z r) of.are.whole (contains_flat rows_in runs run r c d)
@@ -96,8 +89,3 @@ row_at i r is k e = elim is [
   | inl first ↦ absurd (let f : None ≡ Some k = sym (ap (λ (x : Row). x.at) first) ∙ e in cc)
   | inr from ↦ let (m, of) = from in let same : m ≡ k = same_Some m k (sym of.at ∙ e) in subst (λ n. IsRowAt i n r) same of
 ]
-
-pub gathered : (i : Kept) (given sorted rows : List Row) (runs : List Run) → AreNamespaces (namespaces_in i) → AreAllRows i given → IsPermutation given sorted → rows ≡ sorted
-    → AreRuns i rows runs → AreRunsOf i rows runs
-gathered i given sorted rows runs namespaces all moved same are =
-    record { namespaces = namespaces; all = subst (AreAllRows i) (sym same) (sorted_all i given sorted moved all); are = are }

@@ -22,13 +22,13 @@ use Rattle.cil_names.specs.declared.row.Row.{Row}
 use Rattle.cil_names.specs.declared.run.Run.{Run}
 use Rattle.cil_names.specs.Declarations.{Declaration, declared_by}
 use Rattle.cil_names.specs.DeclareRows.{AreAlike, IsRowAt, TellsDiffering, declaration_of, is_row_enabled, object_row, round_at, row_key}
-use Rattle.cil_names.specs.DeclareRuns.{faults_at, faults_named, row_faults, run_faults, run_key}
+use Rattle.cil_names.specs.DeclareRuns.{AreRunsOf, faults_at, faults_named, row_faults, run_faults, run_key}
 use Rattle.cil_names.specs.Entries.{Key, by_name_cmp}
 use Rattle.cil_syntax.specs.declared.name_space.NameSpace.TheVariants as name_spaces
 use Rattle.cil_syntax.specs.NameSpaces.{name_space, rank, rank_in}
 use Rattle.cil_names.specs.Faults.{ClashFault, clash}
 use Rattle.cil_names.proofs.DeclareDecided.{name_space_at, ranked_back, same_declaration}
-use Rattle.cil_names.proofs.DeclareDone.{AreRunsOf, declared_row, is_row, item_within, place_of, row_declared, run_of, space_within}
+use Rattle.cil_names.proofs.DeclareDone.{declared_row, is_row, item_within, place_of, row_declared, run_of, space_within}
 use Rattle.cil_names.proofs.DeclareRowLemmas.{row_declares}
 use Rattle.cil_names.proofs.OrderLemmas.{key_total, one_key}
 use Rattle.cil_base.proofs.SearchLemmas.{one_number}

@@ -19,7 +19,7 @@ use Rattle.cil_names.specs.declared.run.Run.{Run}
 use Rattle.cil_macros.specs.Items.{Kept, item_at, items_in, namespaces_in}
 use Rattle.cil_names.specs.Declarations.{Declaration, IsDeclaration, declared_by}
 use Rattle.cil_names.specs.DeclareRows.{IsRow, declaration_of, is_row_enabled, round_at}
-use Rattle.cil_names.specs.DeclareRuns.{Said, entry_of_run, is_always, has_none, listed_unless, rounds_by, run_key, said_by}
+use Rattle.cil_names.specs.DeclareRuns.{AreRunsOf, Said, entry_of_run, has_none, is_always, listed_unless, rounds_by, run_key, said_by}
 use Rattle.cil_names.specs.Entries.{AreEntries, AreOrdered, AreRounds, IsEntryFor, KeepRounds, IsRoundOf, Key, is_declared_in, by_name_cmp, key_of}
 use Rattle.cil_syntax.specs.NameSpaces.{rank}
 use Rattle.cil_macros.specs.Item.{Item, OptSet, everybody}
@@ -28,7 +28,7 @@ use Rattle.cil_names.proofs.DeclareFaults.{alike_of, all_enabled, one_name_space
 use Rattle.cil_blocks.proofs.NamespaceLemmas.{same_number}
 use Rattle.cil_names.proofs.OrderLemmas.{key_total, one_key}
 use Rattle.cil_base.proofs.SearchLemmas.{one_number}
-use Rattle.cil_names.proofs.DeclareDone.{AreRunsOf, declared_row, is_row, item_within, place_of, row_at, row_declared, run_of, space_within}
+use Rattle.cil_names.proofs.DeclareDone.{declared_row, is_row, item_within, place_of, row_at, row_declared, run_of, space_within}
 use Rattle.cil_names.proofs.DeclareRowLemmas.{of_macro}
 
 -- ---- where an entry is declared

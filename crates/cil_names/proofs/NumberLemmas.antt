@@ -133,6 +133,8 @@ all_rise n rise kinds.Role = rise kinds.Role refl
 all_rise n rise kinds.Type_ = rise kinds.Type_ refl
 all_rise n rise kinds.Class = rise kinds.Class refl
 all_rise n rise kinds.Boolean = rise kinds.Boolean refl
+all_rise n rise kinds.Sensitivity = rise kinds.Sensitivity refl
+all_rise n rise kinds.Category = rise kinds.Category refl
 all_rise n rise kind = rising_nothing text_cmp
 
 -- ---- all numbers

@@ -10,12 +10,13 @@ use Rattle.cil_syntax.specs.declared.kind.Kind.{Kind}
 use Rattle.cil_syntax.specs.Terms.{Leaf, Name, Form, Terms, nil, cons}
 use Rattle.cil_faults.specs.Reported.{fault_at}
 use Rattle.cil_faults.specs.Namespaces.{Namespace}
+use Rattle.cil_blocks.specs.Namespaces.{AreNamespaces}
 use Rattle.cil_syntax.specs.Scopes.{ScopedWord}
-use Rattle.cil_macros.specs.Items.{Kept, item_at}
+use Rattle.cil_macros.specs.Items.{Kept, item_at, namespaces_in}
 use Rattle.cil_names.specs.declared.entry.Entry.{Entry}
 use Rattle.cil_names.specs.declared.row.Row.{Row}
 use Rattle.cil_names.specs.declared.run.Run.{Run}
-use Rattle.cil_names.specs.DeclareRows.{TellsDiffering, round_at, row_key}
+use Rattle.cil_names.specs.DeclareRows.{AreAllRows, TellsDiffering, round_at, row_key}
 use Rattle.cil_names.specs.Entries.{Key, by_name_cmp}
 
 abbrev pub run_key : Run → Key
@@ -42,6 +43,12 @@ pub record AreRuns (i : Kept) (rows : List Row) (runs : List Run) : Type 0 where
   pub whole : flat_map rows_in runs ≡ rows
   pub rising : IsStrictlySortedBy (on run_key by_name_cmp) runs
   pub each : (run : Run) → Contains runs run → IsRun i run
+
+-- the runs are those of the rows of all instances
+pub record AreRunsOf (i : Kept) (rows : List Row) (runs : List Run) : Type 0 where
+  pub namespaces : AreNamespaces (namespaces_in i)
+  pub all : AreAllRows i rows
+  pub are : AreRuns i rows runs
 
 -- ---- faults
 

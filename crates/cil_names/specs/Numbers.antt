@@ -43,6 +43,8 @@ has_section kinds.Role = true
 has_section kinds.User = true
 has_section kinds.Class = true
 has_section kinds.Boolean = true
+has_section kinds.Sensitivity = true
+has_section kinds.Category = true
 has_section kind = false
 
 -- the names of the symbols of one kind
@@ -52,6 +54,8 @@ names_of sections kinds.Role = sections.roles.items
 names_of sections kinds.User = sections.users.items
 names_of sections kinds.Class = sections.classes.items
 names_of sections kinds.Boolean = sections.booleans.items
+names_of sections kinds.Sensitivity = sections.sensitivities.items
+names_of sections kinds.Category = sections.categories.items
 names_of sections kind = []
 
 -- the qualified names of the entries of one kind, as they come

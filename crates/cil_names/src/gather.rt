@@ -1,11 +1,15 @@
 //! The declared names of instances, or the faults of declarations that differ.
 
-ghost use Rattle.std.specs.Prelude.{◌≡◌, ◌∷◌, ◌++◌, [], IfOk, OnOk, map};
+ghost use Rattle.std.specs.Prelude.{◌≡◌, ◌∷◌, ◌++◌, [], IfOk, List, OnOk, map};
 ghost use Rattle.std.specs.List.{flat_map, list_any};
+ghost use Rattle.std.specs.List.Sorted.{IsSortedByKey};
 ghost use Rattle.cil_faults.specs.Refusal.{Answers};
+ghost use Rattle.cil_blocks.specs.Namespaces.{AreNamespaces};
 ghost use Rattle.cil_macros.specs.Items.{items_in, namespaces_in};
-ghost use Rattle.cil_names.specs.DeclareRuns.{entry_of_run, is_always, rounds_by, said_by};
-ghost use Rattle.cil_names.specs.Entries.{AreEntries};
+ghost use Rattle.cil_names.specs.declared.row.Row.{Row};
+ghost use Rattle.cil_names.specs.DeclareRows.{AreAllRows, row_key};
+ghost use Rattle.cil_names.specs.DeclareRuns.{AreRunsOf, entry_of_run, is_always, rounds_by, said_by};
+ghost use Rattle.cil_names.specs.Entries.{AreEntries, by_name_cmp};
 ghost use Rattle.cil_names.specs.Faults.{ClashFault};
 
 use crate::clash::clashes;
@@ -29,10 +33,36 @@ pub fn declare<'a>(alloc: Global, instances: &Instances<'_, '_, 'a>) -> Result<N
     // Numbers of namespaces are one to one.
     instances.namespaces().are_namespaces();
     let rows = sorted_rows(rows_of(alloc, instances)?);
-    let runs = runs_of(alloc, instances, rows.as_slice())?;
-    let faults = clashes(alloc, instances, runs.as_slice())?;
+    declared_by(alloc, instances, rows.as_slice())
+}
+
+/// The declared names of the sorted rows of all instances, or the faults of declarations that differ.
+fn declared_by<'a>(
+    alloc: Global,
+    instances: &Instances<'_, '_, 'a>,
+    rows: &[Row<'a>],
+) -> Result<Names<'a>, Failure>
+    requires namespaces { AreNamespaces (namespaces_in instances.now) }
+    requires rows { AreAllRows instances.now rows.now }
+    requires sorted { IsSortedByKey row_key by_name_cmp rows.now }
+    ensures { Answers (AreEntries (namespaces_in instances.now) (items_in instances.now)) (ClashFault (items_in instances.now)) result }
+{
+    let runs = runs_of(alloc, instances, rows)?;
+    named_by(alloc, instances, runs.as_slice())
+}
+
+/// The same of their runs.
+fn named_by<'a>(
+    alloc: Global,
+    instances: &Instances<'_, '_, 'a>,
+    runs: &[Run<'_, 'a>],
+) -> Result<Names<'a>, Failure>
+    requires { (rows : List Row) × AreRunsOf instances.now rows runs.now }
+    ensures { Answers (AreEntries (namespaces_in instances.now) (items_in instances.now)) (ClashFault (items_in instances.now)) result }
+{
+    let faults = clashes(alloc, instances, runs)?;
     refuse(faults)?;
-    let entries = entries_of(alloc, instances, runs.as_slice())?;
+    let entries = entries_of(alloc, instances, runs)?;
     Ok(Names::of(alloc, entries)?)
 }
 

@@ -31,6 +31,10 @@ pub struct Sections {
     pub classes: Vec<Bytes>,
     /// The booleans.
     pub booleans: Vec<Bytes>,
+    /// The sensitivities.
+    pub sensitivities: Vec<Bytes>,
+    /// The categories.
+    pub categories: Vec<Bytes>,
 }
 
 /// Numbering symbols: the names of each section, and the number of each entry in the section of its kind.
@@ -69,18 +73,30 @@ fn sections_of(
     requires { AreOrdered namespaces.now entries.now }
     ensures { IfOk result (λ n. (kind : kinds.Kind) → has_section kind ≡ true → Lists text_cmp (IsNameAmong namespaces.now entries.now (is_in enabled.now) kind) (names_of n kind)) }
 {
-    let users = section_of(alloc, namespaces, entries, enabled, Kind::User)?;
-    let roles = section_of(alloc, namespaces, entries, enabled, Kind::Role)?;
-    let types = section_of(alloc, namespaces, entries, enabled, Kind::Type_)?;
-    let classes = section_of(alloc, namespaces, entries, enabled, Kind::Class)?;
-    let booleans = section_of(alloc, namespaces, entries, enabled, Kind::Boolean)?;
-    Ok(Sections {
-        users,
-        roles,
-        types,
-        classes,
-        booleans,
-    })
+    let mut sections = Sections::none(alloc);
+    fill_sections(alloc, namespaces, entries, enabled, &mut sections)?;
+    Ok(sections)
+}
+
+/// Makes each section anew.
+fn fill_sections(
+    alloc: Global,
+    namespaces: &Namespaces,
+    entries: &[Entry],
+    enabled: &OptSet,
+    sections: &mut Sections,
+) -> Result<(), NoMemory>
+    requires { AreOrdered namespaces.now entries.now }
+    ensures { OnOk result ((kind : kinds.Kind) → has_section kind ≡ true → Lists text_cmp (IsNameAmong namespaces.now entries.now (is_in enabled.now) kind) (names_of sections.new kind)) }
+{
+    sections.users = section_of(alloc, namespaces, entries, enabled, Kind::User)?;
+    sections.roles = section_of(alloc, namespaces, entries, enabled, Kind::Role)?;
+    sections.types = section_of(alloc, namespaces, entries, enabled, Kind::Type_)?;
+    sections.classes = section_of(alloc, namespaces, entries, enabled, Kind::Class)?;
+    sections.booleans = section_of(alloc, namespaces, entries, enabled, Kind::Boolean)?;
+    sections.sensitivities = section_of(alloc, namespaces, entries, enabled, Kind::Sensitivity)?;
+    sections.categories = section_of(alloc, namespaces, entries, enabled, Kind::Category)?;
+    Ok(())
 }
 
 /// The names of the declared symbols of one kind, in byte order, each once.
@@ -196,6 +212,19 @@ fn is_name_at(names: &[Bytes], place: usize, name: &[u8]) -> bool
 }
 
 impl Sections {
+    /// No names.
+    fn none(alloc: Global) -> Sections {
+        Sections {
+            users: Vec::new(alloc),
+            roles: Vec::new(alloc),
+            types: Vec::new(alloc),
+            classes: Vec::new(alloc),
+            booleans: Vec::new(alloc),
+            sensitivities: Vec::new(alloc),
+            categories: Vec::new(alloc),
+        }
+    }
+
     /// The names of the symbols of one kind.
     pub fn names(&self, kind: Kind) -> &[Bytes]
         ensures { result.now ≡ names_of self.now kind }
@@ -206,6 +235,8 @@ impl Sections {
             Kind::Type_ => self.types.as_slice(),
             Kind::Class => self.classes.as_slice(),
             Kind::Boolean => self.booleans.as_slice(),
+            Kind::Sensitivity => self.sensitivities.as_slice(),
+            Kind::Category => self.categories.as_slice(),
             _ => &[],
         }
     }
