@@ -296,6 +296,9 @@ names_are k xs sections known kind section =
           spelled = ap name_of (symbol_by (symbol_of k.lookup.namespaces.now f.entry) t (f.in_space ∙ st.in_space) (f.of_name ∙ st.of_name)) ∙ spelled;
         }
 
+pub no_limit : (xs : List Item) (s : OptSet) (which : SpaceOf) → limit_of which.item ≡ None → (f : Fault) → TooMany xs s which f → ⊥
+no_limit xs s which none f t = absurd (none-some (t.limit, t.word) (sym none ∙ t.is_limit))
+
 module _ (xs : List Item) (s : OptSet) (which : SpaceOf) (names : List (List ℕ)) (are : Lists text_cmp (IsItemName xs s which.item) names) (most : ℕ) (word : List ℕ) (limit : limit_of which.item ≡ Some (most, word)) where
   pub not_many : length names ≤ most → (f : Fault) → TooMany xs s which f → ⊥
   not_many few f t =

@@ -51,7 +51,7 @@ module _ (r : SpaceKinds) (sign : Sign) (space : IsSpace r sign) where
       (λ t. space.whole.item_or_attribute (kind_there r.attributes r.item t))
 
   role_item : AreOfKind r.aliases kinds.Role ⊎ AreOfKind r.attributes kinds.Role → kinds.Role ≡ r.item
-  role_item sets = sym (section_role r.item space.numbered ((space.whole.each kinds.Role).1 (inr sets)))
+  role_item sets = sym (section_role r.item space.numbered ((space.whole.each kinds.Role).1 (inl (inr sets))))
 
   -- roles are no sets, and `object_r` is a role
   pub no_roles : is_sets_kind r kinds.Role ≡ false

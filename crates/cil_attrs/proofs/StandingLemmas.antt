@@ -8,9 +8,9 @@ use Rattle.std.proofs.Math.Seq.{get_or-append_seam}
 use Rattle.std.proofs.lemmas.List.{get_or_append_left}
 use Rattle.std.proofs.lemmas.Bool.Decides.{nat_tests}
 use Rattle.std.proofs.lemmas.Option.{none-some}
-use Rattle.cil_base.specs.Among.{among, equal_number}
+use Rattle.cil_base.specs.Among.{equal_number}
 use Rattle.cil_base.specs.Lists.{Lists, contains_none}
-use Rattle.cil_base.specs.Places.{in_range, longer}
+use Rattle.cil_base.specs.Places.{in_range}
 use Rattle.cil_syntax.specs.declared.kind.Kind.{Kind}
 use Rattle.cil_syntax.specs.Scopes.{ScopedWord}
 use Rattle.cil_macros.specs.Item.{Item}
@@ -22,7 +22,7 @@ use Rattle.cil_names.specs.Declarations.{Declared, Symbol, name_of}
 use Rattle.cil_names.specs.Entries.{is_declared_in}
 use Rattle.cil_names.specs.Spaces.{Sets, any_sets, is_declared, is_same_symbol, is_set}
 use Rattle.cil_names.specs.Family.{holds, no_range}
-use Rattle.cil_names.specs.Known.{AreStanding, HasNumberFor, HaveMembers, IsKnown, IsMemberNumber, IsNumbered, enabled_in, meant_in, set_meant}
+use Rattle.cil_names.specs.Known.{AreStanding, HaveMembers, IsKnown, IsMemberNumber, IsNumbered, enabled_in, meant_in, set_meant}
 use Rattle.cil_names.specs.Laws.{MeansWhatItNames}
 use Rattle.cil_names.specs.Members.{space_of}
 use Rattle.cil_names.specs.Numbers.{has_section, symbol_of}
@@ -131,6 +131,10 @@ set_is_no_item kinds.Role kinds.Role h = absurd (let f : false ≡ true = h in c
 set_is_no_item kinds.Role e h = refl
 set_is_no_item kinds.User kinds.User h = absurd (let f : false ≡ true = h in cc)
 set_is_no_item kinds.User e h = refl
+set_is_no_item kinds.Sensitivity kinds.Sensitivity h = absurd (let f : false ≡ true = h in cc)
+set_is_no_item kinds.Sensitivity e h = refl
+set_is_no_item kinds.Category kinds.Category h = absurd (let f : false ≡ true = h in cc)
+set_is_no_item kinds.Category e h = refl
 set_is_no_item kind e h = absurd (let f : false ≡ true = h in cc)
 
 module _ (k : Known) (xs : List Item) (names : Kind → List (List ℕ)) (kind : Kind) (known : IsKnown k xs names) (section : has_section kind ≡ true) (law : MeansWhatItNames) (held : List Held)

@@ -1,6 +1,7 @@
 -- Laws of the name spaces.
 use Rattle.std.specs.Prelude.{◌≡◌, ◌⊎◌, ◌↔◌, Option, Some, true}
 use Rattle.cil_syntax.specs.declared.kind.Kind.{Kind}
+use Rattle.cil_syntax.specs.declared.kind.Kind.TheVariants as kinds
 use Rattle.cil_syntax.specs.declared.kind.Sign.{Sign}
 use Rattle.cil_syntax.specs.Kinds.{is_wanted}
 use Rattle.cil_syntax.specs.NameSpaces.{name_space}
@@ -20,9 +21,14 @@ AreOfKind sets kind = (a : SetKind) × (sets ≡ Some a) × (kind ≡ a.kind)
 abbrev pub IsOfKind : SpaceKinds → Kind → Type 0
 IsOfKind r kind = (kind ≡ r.item) ⊎ (AreOfKind r.aliases kind ⊎ AreOfKind r.attributes kind)
 
--- a law: each symbol of a name space is an item, an alias or an attribute, and just one of these; no other symbol is one
+-- sets of categories are of the name space of categories, and stand apart from its items and aliases: what they hold rests on the order
+-- of these
+abbrev pub StandsApart : SpaceKinds → Kind → Type 0
+StandsApart r kind = (r.item ≡ kinds.Category) × (kind ≡ kinds.CategorySet)
+
+-- a law: each symbol of a name space is an item, an alias or an attribute, and just one of these, or stands apart; no other symbol is one
 pub record IsWhole (r : SpaceKinds) : Type 0 where
-  pub each : (kind : Kind) → (name_space kind ≡ name_space r.item) ↔ IsOfKind r kind
+  pub each : (kind : Kind) → (name_space kind ≡ name_space r.item) ↔ (IsOfKind r kind ⊎ StandsApart r kind)
   pub item_or_alias : AreOfKind r.aliases r.item → ⊥
   pub item_or_attribute : AreOfKind r.attributes r.item → ⊥
   pub alias_or_attribute : (kind : Kind) → AreOfKind r.aliases kind → AreOfKind r.attributes kind → ⊥

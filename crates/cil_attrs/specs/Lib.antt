@@ -4,6 +4,7 @@ pub mod Found
 pub mod Givers
 pub mod Holding
 pub mod Laws
+pub mod Limits
 pub mod Made
 pub mod Members
 pub mod NameSpaces

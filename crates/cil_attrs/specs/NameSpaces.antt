@@ -1,5 +1,5 @@
--- The name spaces whose words may stand for several symbols: of types, of roles and of users. CIL Reference Guide, "Type
--- Statements", "Role Statements", "User Statements".
+-- The name spaces whose words may stand for other symbols: of types, of roles, of users, of sensitivities and of categories. CIL
+-- Reference Guide, "Type Statements", "Role Statements", "User Statements", "Multi-Level Security Labeling Statements".
 use Rattle.std.specs.Prelude.{Bool, ◌||◌, Some, None}
 use Rattle.cil_syntax.specs.declared.kind.Keyword.TheVariants as keywords
 use Rattle.cil_syntax.specs.declared.kind.Kind.{Kind}
@@ -22,6 +22,12 @@ role_attributes = record { kind = kinds.RoleAttribute; giving = keywords.RoleAtt
 abbrev pub user_attributes : SetKind
 user_attributes = record { kind = kinds.UserAttribute; giving = keywords.UserAttributeSet }
 
+abbrev pub sensitivity_aliases : SetKind
+sensitivity_aliases = record { kind = kinds.SensitivityAlias; giving = keywords.SensitivityAliasActual }
+
+abbrev pub category_aliases : SetKind
+category_aliases = record { kind = kinds.CategoryAlias; giving = keywords.CategoryAliasActual }
+
 -- the kind of the items of each name space, and the kinds of its sets
 abbrev pub types_kinds : SpaceKinds
 types_kinds = record { item = kinds.Type_; aliases = Some type_aliases; attributes = Some type_attributes }
@@ -31,6 +37,12 @@ roles_kinds = record { item = kinds.Role; aliases = None; attributes = Some role
 
 abbrev pub users_kinds : SpaceKinds
 users_kinds = record { item = kinds.User; aliases = None; attributes = Some user_attributes }
+
+abbrev pub sensitivities_kinds : SpaceKinds
+sensitivities_kinds = record { item = kinds.Sensitivity; aliases = Some sensitivity_aliases; attributes = None }
+
+abbrev pub categories_kinds : SpaceKinds
+categories_kinds = record { item = kinds.Category; aliases = Some category_aliases; attributes = None }
 
 -- the kind is one of the name space
 abbrev pub is_kind_of : SpaceKinds → Kind → Bool

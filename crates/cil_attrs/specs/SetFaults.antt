@@ -52,7 +52,8 @@ pub record TargetBy (xs : List Item) (s : OptSet) (item : Kind) (j : Sets) (x : 
 
 -- ---- limits
 
--- how many symbols of a kind a policy may have, and the word that tells that it has more. Aliases and attributes have no limit
+-- how many symbols of a kind a policy may have, and the word that tells that it has more. Aliases and attributes have no limit; those
+-- of sensitivities and categories are judged beside their orders
 abbrev pub limit_of : Kind → Option (ℕ × List ℕ)
 limit_of kinds.Type_ = Some (65535, codes "types")
 limit_of kinds.Role = Some (4096, codes "roles")

@@ -1,6 +1,6 @@
 //! The members of all aliases and attributes of a name space, or exactly what is wrong with them.
 
-ghost use Rattle.std.specs.Prelude.{◌≡◌, IfOk, List, map, Some, ℕ};
+ghost use Rattle.std.specs.Prelude.{◌≡◌, IfOk, List, map, ℕ};
 ghost use Rattle.cil_faults.specs.Refusal.{Answers};
 ghost use Rattle.cil_syntax.specs.declared.kind.Kind as kinds;
 ghost use Rattle.cil_macros.specs.Items.{Kept, items_in, namespaces_in};
@@ -15,6 +15,7 @@ ghost use Rattle.cil_attrs.specs.Made.{AreSetsAt, HaveMeanings};
 ghost use Rattle.cil_attrs.specs.Members.{AreMade, AreMembers, IsIn, meaning_there};
 ghost use Rattle.cil_attrs.specs.Order.{FallFor};
 ghost use Rattle.cil_attrs.specs.Plain.{ArePlain};
+ghost use Rattle.cil_attrs.specs.Limits.{said_limit};
 ghost use Rattle.cil_attrs.specs.SetFaults.{SetFault, limit_of};
 
 use crate::beginning::{all_items, begun};
@@ -71,12 +72,12 @@ fn members_of(
     names: &[Bytes],
     space: &SpaceKinds,
     sign: Sign,
-    limit: Limit,
+    limit: Option<Limit>,
 ) -> Result<Members, Failure>
     requires namespaces { known.now.lookup.namespaces.now ≡ namespaces_in instances.now }
     requires table { IsTableOf (map (row_in known.now) (items_in instances.now)) known.now.words.now }
     requires space { IsSpace space.now sign }
-    requires limit { limit_of space.now.item ≡ Some (limit.most, limit.word.now) }
+    requires limit { limit_of space.now.item ≡ said_limit limit }
     requires known { (sections : kinds.Kind → List (List ℕ)) × (which : SpaceOf) × IsIn known.now instances.now space.now names.now sections which }
     requires apart { AreApart known.now.lookup.names.now (enabled_in known.now) known.now.numbers.now }
     ensures { (sections : kinds.Kind → List (List ℕ)) (which : SpaceOf) → IsIn known.now instances.now space.now names.now sections which

@@ -18,6 +18,7 @@ ghost use Rattle.cil_attrs.specs.declared.giver.SetKind.{SetKind as ASetKind};
 ghost use Rattle.cil_attrs.specs.declared.targets.Step.{Step as AStep};
 ghost use Rattle.cil_attrs.specs.Givers.{AreSets, HasKinds, IsSets};
 ghost use Rattle.cil_attrs.specs.Laws.{IsSpace};
+ghost use Rattle.cil_attrs.specs.Limits.{said_limit};
 ghost use Rattle.cil_attrs.specs.Members.{IsIn};
 ghost use Rattle.cil_attrs.specs.SetFaults.{AliasTwice, CircularSet, IsItemName, OpenAlias, SetFault, TooMany, limit_of};
 ghost use Rattle.cil_attrs.specs.Targets.{AreCircular, HasOther, IsFlagged, IsToldAmong, IsToldIn, IsToldOf, SaysTwo};
@@ -45,13 +46,13 @@ pub fn check_sets(
     names: &[Bytes],
     space: &SpaceKinds,
     sign: Sign,
-    limit: Limit,
+    limit: Option<Limit>,
     circular: &[bool],
 ) -> Result<(), Failure>
     requires namespaces { known.now.lookup.namespaces.now ≡ namespaces_in instances.now }
     requires table { IsTableOf (map (row_in known.now) (items_in instances.now)) known.now.words.now }
     requires space { IsSpace space.now sign }
-    requires limit { limit_of space.now.item ≡ Some (limit.most, limit.word.now) }
+    requires limit { limit_of space.now.item ≡ said_limit limit }
     requires known { (sections : kinds.Kind → List (List ℕ)) × (which : SpaceOf) × IsIn known.now instances.now space.now names.now sections which }
     requires circular { (which : SpaceOf) → HasKinds space.now which → AreCircular known.now (items_in instances.now) which circular.now }
     ensures { (sections : kinds.Kind → List (List ℕ)) (which : SpaceOf) → IsIn known.now instances.now space.now names.now sections which
@@ -83,8 +84,25 @@ pub fn check_sets(
     refuse(faults)
 }
 
-/// Reports more items than there may be.
+/// Reports more items than there may be, if there is a limit.
 fn push_many(
+    alloc: Global,
+    faults: &mut Vec<Fault>,
+    names: &[Bytes],
+    limit: Option<Limit>,
+) -> Result<(), NoMemory>
+    ensures { OnOk result ((xs : List Item) (s : OptSet) (which : SpaceOf) → limit_of which.item ≡ said_limit limit → Lists text_cmp (IsItemName xs s which.item) names.now
+        → (f : AFault) → Contains faults.new.items f ↔ (Contains faults.old.items f ⊎ TooMany xs s which f)) }
+{
+    let Some(limit) = limit else {
+        return Ok(());
+    };
+    push_over(alloc, faults, names, limit)?;
+    Ok(())
+}
+
+/// Reports more items than a limit allows.
+fn push_over(
     alloc: Global,
     faults: &mut Vec<Fault>,
     names: &[Bytes],

@@ -1,11 +1,12 @@
-//! The name spaces whose words may stand for several symbols, and how many items each may have.
+//! The name spaces whose words may stand for other symbols, and how many items each may have.
 
-ghost use Rattle.std.specs.Prelude.{◌≡◌, refl, Some, true};
+ghost use Rattle.std.specs.Prelude.{◌≡◌, refl, true};
 ghost use Rattle.cil_syntax.specs.declared.kind.Sign.{Sign as ASign};
 ghost use Rattle.cil_names.specs.Numbers.{has_section};
 ghost use Rattle.cil_attrs.specs.declared.giver.SpaceKinds.{SpaceKinds as TheKinds};
 ghost use Rattle.cil_attrs.specs.Givers.{AreWritten};
 ghost use Rattle.cil_attrs.specs.Laws.{AliasesStay, IsSignOf, IsWhole};
+ghost use Rattle.cil_attrs.specs.Limits.{said_limit};
 ghost use Rattle.cil_attrs.specs.SetFaults.{limit_of};
 
 use crate::giver::{SetKind, SpaceKinds};
@@ -20,7 +21,7 @@ pub struct Limit {
     pub word: &'static [u8],
 }
 
-/// A name space whose words may stand for several symbols. Each `impl` proves the laws, by which sets are made.
+/// A name space whose words may stand for other symbols. Each `impl` proves the laws, by which sets are made.
 pub trait Space {
     /// The kind of its items, the kinds of its sets, and the statements that give these their members.
     ghost kinds: { TheKinds };
@@ -36,11 +37,11 @@ pub trait Space {
     fn sign() -> Sign
         ensures { result ≡ sign };
 
-    /// How many items it may have. Aliases and attributes do not count.
-    fn limit() -> Limit
-        ensures { limit_of kinds.item ≡ Some (result.most, result.word.now) };
+    /// How many items it may have, if that is judged with its sets. Aliases and attributes do not count.
+    fn limit() -> Option<Limit>
+        ensures { limit_of kinds.item ≡ said_limit result };
 
-    /// Each of its symbols is an item, an alias or an attribute, and just one of these.
+    /// Each of its symbols is an item, an alias or an attribute, and just one of these; sets of categories stand apart.
     ghost whole: { IsWhole kinds };
 
     /// The target of an alias is of the name space of the alias.
@@ -64,6 +65,12 @@ pub struct Roles;
 
 /// Users and their attributes.
 pub struct Users;
+
+/// Sensitivities and their aliases.
+pub struct Sensitivities;
+
+/// Categories and their aliases, without sets of categories.
+pub struct Categories;
 
 impl Space for Types {
     ghost use Rattle.cil_syntax.specs.declared.kind.Sign.TheVariants as signs;
@@ -102,11 +109,11 @@ impl Space for Types {
         Sign::Types
     }
 
-    fn limit() -> Limit {
-        Limit {
+    fn limit() -> Option<Limit> {
+        Some(Limit {
             most: 65_535,
             word: b"types",
-        }
+        })
     }
 }
 
@@ -144,11 +151,11 @@ impl Space for Roles {
         Sign::Roles
     }
 
-    fn limit() -> Limit {
-        Limit {
+    fn limit() -> Option<Limit> {
+        Some(Limit {
             most: 4_096,
             word: b"roles",
-        }
+        })
     }
 }
 
@@ -186,10 +193,88 @@ impl Space for Users {
         Sign::Users
     }
 
-    fn limit() -> Limit {
-        Limit {
+    fn limit() -> Option<Limit> {
+        Some(Limit {
             most: 4_096,
             word: b"users",
+        })
+    }
+}
+
+impl Space for Sensitivities {
+    ghost use Rattle.cil_syntax.specs.declared.kind.Sign.TheVariants as signs;
+    ghost use Rattle.cil_attrs.specs.NameSpaces.{sensitivities_kinds};
+    ghost use Rattle.cil_attrs.specs.SpaceLaws.{sensitivities_stay, sensitivities_wanted, sensitivities_whole, sensitivities_written};
+
+    ghost kinds = { sensitivities_kinds };
+
+    ghost sign = { signs.Sensitivities };
+
+    ghost whole = { sensitivities_whole };
+
+    ghost stays = { sensitivities_stay };
+
+    ghost wanted = { sensitivities_wanted };
+
+    ghost written = { sensitivities_written };
+
+    ghost numbered = { refl };
+
+    fn kinds() -> SpaceKinds {
+        SpaceKinds {
+            item: Kind::Sensitivity,
+            aliases: Some(SetKind {
+                kind: Kind::SensitivityAlias,
+                giving: Keyword::SensitivityAliasActual,
+            }),
+            attributes: None,
         }
+    }
+
+    fn sign() -> Sign {
+        Sign::Sensitivities
+    }
+
+    fn limit() -> Option<Limit> {
+        None
+    }
+}
+
+impl Space for Categories {
+    ghost use Rattle.cil_syntax.specs.declared.kind.Sign.TheVariants as signs;
+    ghost use Rattle.cil_attrs.specs.NameSpaces.{categories_kinds};
+    ghost use Rattle.cil_attrs.specs.SpaceLaws.{categories_stay, categories_wanted, categories_whole, categories_written};
+
+    ghost kinds = { categories_kinds };
+
+    ghost sign = { signs.Categories };
+
+    ghost whole = { categories_whole };
+
+    ghost stays = { categories_stay };
+
+    ghost wanted = { categories_wanted };
+
+    ghost written = { categories_written };
+
+    ghost numbered = { refl };
+
+    fn kinds() -> SpaceKinds {
+        SpaceKinds {
+            item: Kind::Category,
+            aliases: Some(SetKind {
+                kind: Kind::CategoryAlias,
+                giving: Keyword::CategoryAliasActual,
+            }),
+            attributes: None,
+        }
+    }
+
+    fn sign() -> Sign {
+        Sign::Categories
+    }
+
+    fn limit() -> Option<Limit> {
+        None
     }
 }

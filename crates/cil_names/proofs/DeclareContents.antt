@@ -17,7 +17,7 @@ use Rattle.cil_macros.specs.Items.{Kept, all_placed, item_at, scoped_by}
 use Rattle.cil_macros.specs.Listed.{Part, all_parts_of, closes, opens, part_there, parts_of, parts_there, terms_in, text, word}
 use Rattle.cil_macros.specs.Placed.{Placed}
 use Rattle.cil_macros.proofs.PartLemmas.{terms_in_parts}
-use Rattle.cil_names.specs.DeclareRows.{IsNamed, bare_part, bare_parts, behind, content_at, said_behind, unplaced}
+use Rattle.cil_names.specs.DeclareRows.{IsNamed, bare_part, bare_parts, behind, content_at, unplaced}
 use Rattle.cil_names.specs.Declarations.{Bare, bare, content_of, nowhere}
 
 -- the two values are equal exactly where the flag is true
@@ -88,7 +88,7 @@ module _ (i : Kept) where
   ps = all_placed i
 
   parts_behind : (k : ℕ) → IsNamed i k → (xs rest : List kept.Part) → parts_there ps xs ≡ all_parts_of (item_at i k).args → rest ≡ drop 1 xs
-      → bare_parts ps rest ≡ said_behind i k
+      → bare_parts ps rest ≡ map unplaced (all_parts_of (behind (item_at i k).args))
   parts_behind k named xs rest are is =
       sym (map-map unplaced (part_there ps) rest)
       ∙ ap (map unplaced) (
@@ -97,16 +97,14 @@ module _ (i : Kept) where
       ∙ sym (ap (λ args. all_parts_of (behind args)) named.begins.1)
       )
 
-  pub said_tells : (k : ℕ) → IsNamed i k → (xs rest one : List kept.Part) → parts_there ps xs ≡ all_parts_of (item_at i k).args → rest ≡ drop 1 xs
-      → (same : Bool) → Tells same (bare_parts ps one) (bare_parts ps rest) → Tells same (bare_parts ps one) (said_behind i k)
-  said_tells k named xs rest one are is same tells = subst (Tells same (bare_parts ps one)) (parts_behind k named xs rest are is) tells
-
-  pub contents_tell : (a b : ℕ) → IsNamed i a → (xs one : List kept.Part) → parts_there ps xs ≡ all_parts_of (item_at i a).args → one ≡ drop 1 xs
-      → (same : Bool) → Tells same (bare_parts ps one) (said_behind i b) → Tells same (content_at i (Some a)) (content_at i (Some b))
-  contents_tell a b of_a xs one in_a is_one same tells =
-      let here = parts_behind a of_a xs one in_a is_one in (
-        (λ t. same_content (behind (item_at i a).args) (behind (item_at i b).args) (sym here ∙ tells.0 t)),
-        (λ e. tells.1 (here ∙ same_parts (behind (item_at i a).args) (behind (item_at i b).args) e)),
+  pub contents_tell : (a b : ℕ) → IsNamed i a → IsNamed i b → (xs ys one other : List kept.Part) → parts_there ps xs ≡ all_parts_of (item_at i a).args
+      → parts_there ps ys ≡ all_parts_of (item_at i b).args → one ≡ drop 1 xs → other ≡ drop 1 ys
+      → (same : Bool) → Tells same (bare_parts ps one) (bare_parts ps other) → Tells same (content_at i (Some a)) (content_at i (Some b))
+  contents_tell a b of_a of_b xs ys one other in_a in_b is_one is_other same tells =
+      let here = parts_behind a of_a xs one in_a is_one in
+      let there = parts_behind b of_b ys other in_b is_other in (
+        (λ t. same_content (behind (item_at i a).args) (behind (item_at i b).args) (sym here ∙ tells.0 t ∙ there)),
+        (λ e. tells.1 (here ∙ same_parts (behind (item_at i a).args) (behind (item_at i b).args) e ∙ sym there)),
       )
 
 -- ---- one part

@@ -11,7 +11,7 @@ use Rattle.cil_blocks.specs.Namespaces.{IsNumber, space_at}
 use Rattle.cil_macros.specs.declared.listed.Part as kept
 use Rattle.cil_macros.specs.Item.{OptSet}
 use Rattle.cil_macros.specs.Items.{Kept, item_at, items_in, namespaces_in}
-use Rattle.cil_macros.specs.Listed.{Part, all_parts_of, closes, opens, part_there, text, word}
+use Rattle.cil_macros.specs.Listed.{Part, closes, opens, part_there, text, word}
 use Rattle.cil_macros.specs.Placed.{Placed}
 use Rattle.cil_names.specs.declared.row.Row.{Row}
 use Rattle.cil_names.specs.Declarations.{Bare, Declaration, content_of, declared_by, nowhere}
@@ -103,10 +103,6 @@ bare_part ps x = unplaced (part_there ps x)
 
 abbrev pub bare_parts : List Placed → List kept.Part → List Part
 bare_parts ps xs = map (bare_part ps) xs
-
--- what the instance at a place says behind the declared name, as it is compared
-abbrev pub said_behind : Kept → ℕ → List Part
-said_behind i k = map unplaced (all_parts_of (behind (item_at i k).args))
 
 -- what the instance at a place says begins with a name
 pub record IsNamed (i : Kept) (k : ℕ) : Type 0 where

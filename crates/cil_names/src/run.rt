@@ -5,9 +5,9 @@ ghost use Rattle.std.specs.declared.cmp.Ordering.TheVariants.{Less};
 ghost use Rattle.std.specs.List.Sorted.{IsPermutation, IsSortedByKey};
 ghost use Rattle.cil_syntax.specs.NameSpaces.{name_space};
 ghost use Rattle.cil_syntax.specs.declared.name_space.NameSpace.TheVariants as name_spaces;
-ghost use Rattle.cil_macros.specs.Items.{all_placed, items_in};
+ghost use Rattle.cil_macros.specs.Items.{items_in};
 ghost use Rattle.cil_names.specs.declared.row.Row.{Row};
-ghost use Rattle.cil_names.specs.DeclareRows.{AreAlike, AreRowsIn, IsNamed, IsRow, TellsDiffering, bare_parts, content_at, declaration_of, row_key, said_behind};
+ghost use Rattle.cil_names.specs.DeclareRows.{AreAlike, AreRowsIn, IsNamed, IsRow, TellsDiffering, content_at, declaration_of, row_key};
 ghost use Rattle.cil_names.specs.DeclareRuns.{AreRuns, IsNextRun};
 ghost use Rattle.cil_names.specs.Entries.{by_name_cmp};
 ghost use Rattle.cil_names.specs.Worded.{IsOfStatement, IsWordless};
@@ -230,22 +230,14 @@ fn is_same_there<'a>(
     requires b { IsNamed instances.now b }
     ensures { IfOk result (λ same. IsTrue same ↔ (content_at instances.now (Some a) ≡ content_at instances.now (Some b))) }
 {
-    let said = parts_at(alloc, instances, a)?;
-    is_said_there(alloc, instances, behind_first(said.as_slice()), b)
-}
-
-/// Whether an instance says these parts behind the declared name.
-fn is_said_there<'a>(
-    alloc: Global,
-    instances: &Instances<'_, '_, 'a>,
-    parts: &[Part<'a>],
-    at: usize,
-) -> Result<bool, NoMemory>
-    requires { IsNamed instances.now at }
-    ensures { IfOk result (λ same. IsTrue same ↔ (bare_parts (all_placed instances.now) parts.now ≡ said_behind instances.now at)) }
-{
-    let said = parts_at(alloc, instances, at)?;
-    are_same_parts(alloc, instances, parts, behind_first(said.as_slice()))
+    let one = parts_at(alloc, instances, a)?;
+    let other = parts_at(alloc, instances, b)?;
+    are_same_parts(
+        alloc,
+        instances,
+        behind_first(one.as_slice()),
+        behind_first(other.as_slice()),
+    )
 }
 
 fn behind_first<'t, 'a>(parts: &'t [Part<'a>]) -> &'t [Part<'a>]

@@ -1,6 +1,6 @@
 //! The permissions that classes share by commons.
 
-ghost use Rattle.std.specs.Prelude.{◌≡◌, ◌⊎◌, ◌+◌, ◌<◌, ◌≤◌, ◌++◌, [], All, IfOk, List, MatchOption, None, OnOk, Some, false, length, refl, take, true};
+ghost use Rattle.std.specs.Prelude.{◌≡◌, ◌⊎◌, ◌+◌, ◌<◌, ◌≤◌, ◌++◌, All, IfOk, List, MatchOption, None, OnOk, Some, false, length, refl, take, true};
 ghost use Rattle.std.specs.Cmp.{eq_by_cmp_equiv, partial_equiv_from_equiv, partial_order_from_total};
 ghost use Rattle.std.specs.Ordering.{as_partial_cmp, eq_by_cmp};
 ghost use Rattle.cil_macros.specs.Item.{Item, nobody};
@@ -96,26 +96,11 @@ fn all_shared(alloc: Global, instances: &Instances, names: &Names) -> Result<Vec
     ensures { IfOk result (λ shared. AreRecordsOf (Shares (items_in instances.now)) (IsPairOf (namespaces_in instances.now) names.now) (items_in instances.now) shared.items) }
 {
     let mut shared = Vec::new(alloc);
-    push_all(alloc, instances, names, &mut shared)?;
-    Ok(shared)
-}
-
-/// Adds the pairs of all statements where there are none.
-fn push_all(
-    alloc: Global,
-    instances: &Instances,
-    names: &Names,
-    shared: &mut Vec<Shared>,
-) -> Result<(), NoMemory>
-    requires entries { AreEntries (namespaces_in instances.now) (items_in instances.now) names.now }
-    requires none { shared.old.items ≡ [] }
-    ensures { OnOk result (AreRecordsOf (Shares (items_in instances.now)) (IsPairOf (namespaces_in instances.now) names.now) (items_in instances.now) shared.new.items) }
-{
     let mut scope = ScopeList::new(alloc);
     for at in 0..instances.len() {
-        push_at(alloc, instances, names, at, &mut scope, shared)?;
+        push_at(alloc, instances, names, at, &mut scope, &mut shared)?;
     }
-    Ok(())
+    Ok(shared)
 }
 
 /// Adds the pair that the statement at a place joins, if it joins one.

@@ -28,11 +28,13 @@ use Rattle.cil_tables.specs.SetsStep.{MembersFault, SetsFault}
 use Rattle.cil_tables.proofs.Finite.{Finite, finite_either, finite_if, finite_listing, finite_same}
 use Rattle.cil_tables.proofs.FiniteFaults.{decided_less, finite_class}
 use Rattle.cil_tables.proofs.FinitePolicy.{finite_names}
-use Rattle.cil_tables.proofs.NoGifts.{HaveFlatKeywords, declares_no_alias, gives_none, none_depends}
+use Rattle.cil_tables.proofs.NoGifts.{HaveFlatKeywords, declares_no_alias, gives_none, is_alias, none_depends}
 
--- only types have aliases
-alias_kind : (kind : Kind) (j : Sets) → (space_of kind).aliases ≡ Some j → j.kind ≡ kinds.TypeAlias
-alias_kind kinds.Type_ j e = ap (λ (i : Sets). i.kind) (sym (same_Some _ j e))
+-- the kinds of the aliases of all name spaces
+alias_kind : (kind : Kind) (j : Sets) → (space_of kind).aliases ≡ Some j → is_alias j.kind ≡ true
+alias_kind kinds.Type_ j e = ap (λ (i : Sets). is_alias i.kind) (sym (same_Some _ j e))
+alias_kind kinds.Sensitivity j e = ap (λ (i : Sets). is_alias i.kind) (sym (same_Some _ j e))
+alias_kind kinds.Category j e = ap (λ (i : Sets). is_alias i.kind) (sym (same_Some _ j e))
 alias_kind kinds.Role j e = absurd (none-some j e)
 alias_kind kinds.User j e = absurd (none-some j e)
 alias_kind kind j e = absurd (none-some j e)
@@ -43,7 +45,7 @@ gives_one kind j k e g = ap (λ o. option_map_or (λ (i : Sets). i.giving k) o f
 module _ (xs : List Item) (flat : HaveFlatKeywords xs) (s : OptSet) (kind : Kind) where
   no_open : (f : Fault) → OpenAlias xs s (space_of kind) f → ⊥
   no_open f o =
-      declares_no_alias o.item.keyword (flat o.item o.declares.is_item) (subst (Contains (entry_of o.item.keyword).declares) (alias_kind kind o.sets o.are_aliases) o.declares.of_kind)
+      declares_no_alias o.item.keyword (flat o.item o.declares.is_item) o.sets.kind (alias_kind kind o.sets o.are_aliases) o.declares.of_kind
 
   no_twice : (f : Fault) → AliasTwice xs s (space_of kind) f → ⊥
   no_twice f t =

@@ -16,7 +16,7 @@ use Rattle.cil_syntax.specs.Terms.{Term}
 use Rattle.cil_macros.specs.Item.{Item, OptSet, is_enabled}
 use Rattle.cil_names.specs.Declarations.{Declaration, Declared, IsDeclaration, Symbol, by, object}
 use Rattle.cil_names.specs.Family.{DependsOn, Family, IsRanked, Solves, Uses, at_once, further, gives, holds, in_value, is_given, is_giving, no_range}
-use Rattle.cil_names.specs.Members.{StandsFor, gives_role_attributes, gives_type_aliases, gives_type_attributes, gives_user_attributes, space_of}
+use Rattle.cil_names.specs.Members.{StandsFor, gives_category_aliases, gives_role_attributes, gives_sensitivity_aliases, gives_type_aliases, gives_type_attributes, gives_user_attributes, space_of}
 use Rattle.cil_names.specs.Spaces.{Sets, any_sets, names}
 use Rattle.cil_names.proofs.FamilyLemmas.{stands_is}
 use Rattle.cil_tables.specs.Laws.{is_flat}
@@ -40,25 +40,40 @@ not_user_attributes : (k : Keyword) → is_flat k ≡ true → gives_user_attrib
 not_user_attributes keywords.UserAttributeSet e = absurd cc
 not_user_attributes k e = refl
 
+not_sensitivity_aliases : (k : Keyword) → is_flat k ≡ true → gives_sensitivity_aliases k ≡ false
+not_sensitivity_aliases keywords.SensitivityAliasActual e = absurd cc
+not_sensitivity_aliases k e = refl
+
+not_category_aliases : (k : Keyword) → is_flat k ≡ true → gives_category_aliases k ≡ false
+not_category_aliases keywords.CategoryAliasActual e = absurd cc
+not_category_aliases k e = refl
+
 -- such a statement gives no set of the name space members
 pub gives_none : (kind : Kind) (k : Keyword) → is_flat k ≡ true → any_sets (space_of kind) (λ j. j.giving k) ≡ false
 gives_none kinds.Type_ k e = ap (λ b. b || gives_type_attributes k) (not_type_aliases k e) ∙ not_type_attributes k e
 gives_none kinds.Role k e = not_role_attributes k e
 gives_none kinds.User k e = not_user_attributes k e
+gives_none kinds.Sensitivity k e = ap (λ b. b || false) (not_sensitivity_aliases k e)
+gives_none kinds.Category k e = ap (λ b. b || false) (not_category_aliases k e)
 gives_none kind k e = refl
 
-abbrev is_alias : Kind → Bool
+-- the kind is that of aliases
+abbrev pub is_alias : Kind → Bool
 is_alias kinds.TypeAlias = true
+is_alias kinds.SensitivityAlias = true
+is_alias kinds.CategoryAlias = true
 is_alias kind = false
 
-lacks_alias : (ks : List Kind) → list_any is_alias ks ≡ false → Contains ks kinds.TypeAlias → ⊥
-lacks_alias ks none c = true≢false (sym (any_from is_alias ks kinds.TypeAlias c refl) ∙ none)
+lacks_alias : (ks : List Kind) → list_any is_alias ks ≡ false → (kind : Kind) → is_alias kind ≡ true → Contains ks kind → ⊥
+lacks_alias ks none kind is c = true≢false (sym (any_from is_alias ks kind c is) ∙ none)
 
 -- it declares no alias
-pub declares_no_alias : (k : Keyword) → is_flat k ≡ true → Contains (entry_of k).declares kinds.TypeAlias → ⊥
+pub declares_no_alias : (k : Keyword) → is_flat k ≡ true → (kind : Kind) → is_alias kind ≡ true → Contains (entry_of k).declares kind → ⊥
 unfolding entry_of
-declares_no_alias keywords.TypeAlias e c = absurd cc
-declares_no_alias k e c = lacks_alias (entry_of k).declares refl c
+declares_no_alias keywords.TypeAlias e kind is c = absurd cc
+declares_no_alias keywords.SensitivityAlias e kind is c = absurd cc
+declares_no_alias keywords.CategoryAlias e kind is c = absurd cc
+declares_no_alias k e kind is c = lacks_alias (entry_of k).declares refl kind is c
 
 -- ---- tests
 

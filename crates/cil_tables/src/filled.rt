@@ -80,6 +80,8 @@ pub(crate) fn tables_from(numbering: Numbering, classes: Classes, filled: Filled
         types,
         classes: _,
         booleans: _,
+        sensitivities: _,
+        categories: _,
     } = sections;
     let Classes { rows } = classes;
     let Filled { booleans, given } = filled;

@@ -1,14 +1,13 @@
+use Rattle.std.proofs.Common.{◌∙◌, ap}
+use Rattle.cil_attrs.specs.Limits.{said_limit}
 use Rattle.cil_attrs.specs.SetFaults.{TooMany}
-use Rattle.cil_attrs.proofs.FaultLemmas.{are_many, not_many}
-use Rattle.cil_attrs.proofs.ToldLemmas.{nothing_more, one_more}
+use Rattle.cil_attrs.proofs.FaultLemmas.{no_limit}
+use Rattle.cil_attrs.proofs.ToldLemmas.{nothing_more}
 use Rattle.cil_attrs.proofs.faults.push_many.Goals as goal
 
-pub returns-then-names-limit : goal.returns-then-names-limit
-returns-then-names-limit c = λ xs s which limit are.
-    nothing_more c.args.faults.now.items (TooMany xs s which)
-    (not_many xs s which c.args.names.now are c.args.limit.most c.args.limit.word.now limit c.if-names-limit.true)
+pub returns-in_default : goal.returns-in_default
+returns-in_default c = λ xs s which limit are.
+    nothing_more c.args.faults.now.items (TooMany xs s which) (no_limit xs s which (limit ∙ ap said_limit c.in_default.is))
 
 pub returns : goal.returns
-returns c = λ xs s which limit are.
-    one_more c.args.faults.now.items c.push_fault.new.faults.items _ (TooMany xs s which) c.in_ok-push_fault.ensures
-    (are_many xs s which c.args.names.now are c.args.limit.most c.args.limit.word.now limit c.if-names-limit.false)
+returns c = λ xs s which limit are. c.in_ok-push_over.ensures xs s which (limit ∙ ap said_limit c.in-Some.is) are

@@ -6,8 +6,12 @@ use Rattle.cil_names.proofs.run.is_same_there.Goals as goal
 pub parts_at-requires : goal.parts_at-requires
 parts_at-requires c = c.requires.a.within
 
+pub parts_at-requires-2 : goal.parts_at-requires-2
+parts_at-requires-2 c = c.requires.b.within
+
 pub returns : goal.returns
 returns c =
-    IfOk-weaker c.is_said_there.result _ _
-    (contents_tell c.args.instances.now c.args.a c.args.b c.requires.a _ _ c.in_ok-said.ensures (c.behind_first.ensures ∙ ap (drop 1) c.as_slice.ensures.value))
-    c.is_said_there.ensures
+    IfOk-weaker c.are_same_parts.result _ _
+    (contents_tell c.args.instances.now c.args.a c.args.b c.requires.a c.requires.b _ _ _ _ c.in_ok-one.ensures c.in_ok-other.ensures (c.behind_first.ensures ∙ ap (drop 1) c.as_slice.ensures.value)
+    (c.behind_first-2.ensures ∙ ap (drop 1) c.as_slice-2.ensures.value))
+    c.are_same_parts.ensures

@@ -1,7 +1,7 @@
 use Rattle.std.proofs.Common.{arith}
 use Rattle.cil_base.proofs.RecordLemmas.{all_records}
 use Rattle.cil_macros.specs.Items.{items_in}
-use Rattle.cil_names.proofs.shared.push_all.Goals as goal
+use Rattle.cil_names.proofs.shared.all_shared.Goals as goal
 
 pub push_at-requires-clause-within : goal.push_at-requires-clause-within
 push_at-requires-clause-within c = let t = c.loop-at-test.true in let n = c.len-at-end.ensures.items in omega (arith, t, n)

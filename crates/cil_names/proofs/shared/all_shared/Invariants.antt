@@ -2,7 +2,7 @@ use Rattle.std.specs.Prelude.{take}
 use Rattle.cil_base.specs.Records.{AreRecordsOf}
 use Rattle.cil_macros.specs.Items.{items_in, namespaces_in}
 use Rattle.cil_names.specs.Shared.{IsPairOf, Shares}
-use Rattle.cil_names.proofs.shared.push_all.Given as goal
+use Rattle.cil_names.proofs.shared.all_shared.Given as goal
 
 abbrev pub invariant-loop-at : goal.invariant-loop-at
 invariant-loop-at l =
