@@ -7,7 +7,7 @@ use Rattle.cil_mls.specs.Orders.{IsOrder, IsOneOrder, IsChain}
 
 module _ {X : Type 0} where
   -- where a member is
-  at_place : (row : List X) (x : X) → Contains row x → (i : ℕ) × (slice_get row i ≡ Some x)
+  pub at_place : (row : List X) (x : X) → Contains row x → (i : ℕ) × (slice_get row i ≡ Some x)
   at_place row x c = let p = get_at row x c in (p.0, p.2)
 
   -- without its first item, an order is an order of the others

@@ -7,8 +7,13 @@ pub mod ItemLemmas
 pub mod LevelLemmas
 pub mod NameLemmas
 pub mod OrderLemmas
+pub mod OrderSpaces
+pub mod OrderingLemmas
+pub mod PairLemmas
 pub mod PartLemmas
 pub mod RisingLemmas
 pub mod SameLemmas
 pub mod SpanLemmas
+pub mod SymbolLemmas
 pub mod WordLemmas
+pub mod WordListLemmas

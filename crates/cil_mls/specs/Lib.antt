@@ -6,5 +6,7 @@ pub mod Laws
 pub mod LevelTexts
 pub mod Names
 pub mod OrderSteps
+pub mod Ordering
 pub mod Orders
+pub mod Pairs
 pub mod Reading

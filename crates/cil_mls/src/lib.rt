@@ -10,6 +10,7 @@
 #![tactic(auto)]
 
 mod categories;
+mod item_order;
 pub mod laws;
 mod level;
 mod level_names;
@@ -17,6 +18,7 @@ mod level_names;
 mod level_tests;
 mod named;
 mod order;
+mod pairs;
 mod parts;
 #[cfg(test)]
 mod tests;
@@ -24,6 +26,7 @@ mod texts;
 mod words;
 
 pub use categories::{Categories, MOST_CATEGORIES};
+pub use item_order::{category_order, sensitivity_order};
 pub use level::{Level, Range};
 pub use level_names::{LevelNames, MOST_SENSITIVITIES};
 pub use named::Named;
