@@ -3,9 +3,10 @@
 //! "Multi-Level Security and Multi-Category Security".
 //!
 //! Start at `level.rt`: a `Level` is a sensitivity and a set of categories (`categories.rt`), all by their places in two orders.
-//! `order_of`, in `order.rt`, finds the one order that statements fix; `specs/Orders.antt` says which orders are right.
+//! `sensitivity_order` and `category_order`, in `item_order.rt`, find the one order that statements fix, by the pairs of numbers that
+//! these list (`pairs.rt`) and by `order_of` (`order.rt`); `specs/Ordering.antt` and `specs/Orders.antt` say which orders are right.
 //! `specs/Dominance.antt` says which level dominates which. `LevelNames`, in `level_names.rt`, reads the text of a level or a range
-//! (`specs/LevelTexts.antt`). `laws.rt` says that an order and the level of a text are one. Statements are not read here, and no
+//! (`specs/LevelTexts.antt`). `laws.rt` says that an order and the level of a text are one. Terms of levels are not read here, and no
 //! crate calls this one yet.
 #![tactic(auto)]
 

@@ -20,7 +20,7 @@ fn show_counts(out: &mut String, first: u64, second: u64) -> bool {
 }
 
 /// Adds the lines of faults. False where there is no memory.
-fn show_faults(alloc: Global, faults: &FaultList, out: &mut String) -> bool {
+pub(crate) fn show_faults(alloc: Global, faults: &FaultList, out: &mut String) -> bool {
     let Ok(lines) = render(alloc, faults) else {
         return false;
     };

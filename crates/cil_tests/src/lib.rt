@@ -10,4 +10,6 @@ mod decisions;
 #[cfg(test)]
 mod growths;
 #[cfg(test)]
+mod level_orders;
+#[cfg(test)]
 mod streams;

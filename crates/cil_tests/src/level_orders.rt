@@ -1,0 +1,303 @@
+//! The orders of sensitivities and of categories. A host refuses their statements by name, so no session shows them.
+
+ghost use Rattle.std.specs.Prelude.{◌≡◌, List, map};
+ghost use Rattle.cil_syntax.specs.Program.{IsNested};
+ghost use Rattle.cil_blocks.specs.Places.{AreStandings, statements_in};
+ghost use Rattle.cil_macros.specs.Items.{items_in, namespaces_in};
+ghost use Rattle.cil_names.specs.declared.entry.Entry.{Entry as AnEntry};
+ghost use Rattle.cil_names.specs.Entries.{AreEntries, is_in};
+ghost use Rattle.cil_names.specs.Known.{IsKnown, enabled_in, row_in};
+ghost use Rattle.cil_names.specs.Numbers.{AreApart, ArePlainNames, names_of};
+ghost use Rattle.cil_names.specs.PermissionWords.{meanings};
+ghost use Rattle.cil_names.specs.Rows.{IsTableOf};
+ghost use Rattle.cil_names.specs.Unresolved.{ArePermissions};
+
+use crate::growths::show_faults;
+use cil_base::Bytes;
+use cil_blocks::{Spaces, inherit};
+use cil_macros::{Instances, expand};
+use cil_mls::{category_order, sensitivity_order};
+use cil_modset::ModuleSet;
+use cil_names::{
+    Known, Lookup, Names, OptSet, Sections, Words, commons_of, declare, numbered, permissions_of,
+};
+use cil_syntax::{Failure, Program, all_written};
+use cil_text_tests::set_of;
+use cil_words::{asks_of, settled};
+use std::alloc::Global;
+
+/// A text, and a line for each of its two orders: the names from the lowest on, `none` where there is no order or several, or the
+/// faults of aliases.
+const ROWS: &[(&str, &str)] = &[
+    // nothing is in one order, and so is one item
+    ("(type t)", "\n\n"),
+    ("(sensitivity s)(category c)", "s\nc\n"),
+    // each item is joined to the next, whatever the order of names and of statements
+    (
+        "(sensitivity s0)(sensitivity s1)(sensitivity s2)(sensitivityorder (s1 s2))(sensitivityorder (s0 s1))",
+        "s0 s1 s2\n\n",
+    ),
+    (
+        "(category a)(category c)(category b)(categoryorder (c b a))",
+        "\nc b a\n",
+    ),
+    // a pair that is not joined, a circle, an item above itself
+    (
+        "(sensitivity s0)(sensitivity s1)(sensitivity s2)(sensitivityorder (s0 s1))(sensitivityorder (s2))",
+        "none\n\n",
+    ),
+    (
+        "(sensitivity s0)(sensitivity s1)(sensitivity s2)(sensitivityorder (s0 s1))(sensitivityorder (s1 s2))(sensitivityorder (s2 s0))",
+        "none\n\n",
+    ),
+    ("(category c)(categoryorder (c c))", "\nnone\n"),
+    (
+        "(category a)(category b)(category c)(category d)(categoryorder (a b d))(categoryorder (a c d))",
+        "\nnone\n",
+    ),
+    // the end of one statement is not joined to the beginning of the next
+    (
+        "(category a)(category b)(category c)(category d)(categoryorder (a b))(categoryorder (c d))",
+        "\nnone\n",
+    ),
+    // what follows from other pairs is not said twice
+    (
+        "(category a)(category b)(category c)(categoryorder (a b c))(categoryorder (a c))(categoryorder (b c))",
+        "\na b c\n",
+    ),
+    // an alias stands for its item, in steps too, and is no item of its own
+    (
+        "(sensitivity x)(sensitivity y)(sensitivityalias k)(sensitivityaliasactual k y)(sensitivityalias l)(sensitivityaliasactual l k)(sensitivityorder (l x))",
+        "y x\n\n",
+    ),
+    (
+        "(category c)(categoryalias k)(categoryaliasactual k c)(categoryorder (k c))",
+        "\nnone\n",
+    ),
+    // a set of categories takes no part
+    (
+        "(category c)(category d)(categoryset e (c d))(categoryorder (d c))",
+        "\nd c\n",
+    ),
+    // 51, 52, 53: no order is judged, and the other one is
+    (
+        "(sensitivity s)(sensitivity t)(sensitivityalias k)(category c)(category d)(categoryorder (d c))",
+        "51 0 48 . k\nd c\n",
+    ),
+    (
+        "(category c)(category d)(categoryalias k)(categoryaliasactual k c)(categoryaliasactual k d)",
+        "\n52 0 62 . k\n52 0 87 . k\n",
+    ),
+    (
+        "(category c)(categoryalias k)(categoryalias l)(categoryaliasactual k l)(categoryaliasactual l k)",
+        "\n53 0 27 . k\n53 0 44 . l\n",
+    ),
+    // qualified names
+    (
+        "(block b (category c)(category a)(categoryorder (c a)))(category z)(categoryorder (b.a z))",
+        "\nb.c b.a z\n",
+    ),
+];
+
+/// Whether these are the lines of a text.
+fn are_lines(alloc: Global, text: &str, want: &str) -> bool {
+    let mut out = String::new(alloc);
+    show_texts(alloc, &[text], &mut out) && out.as_str() == want
+}
+
+/// Adds the lines of some texts. False where they are no policy, or there is no memory.
+fn show_texts(alloc: Global, texts: &[&str], out: &mut String) -> bool {
+    match set_of(alloc, texts) {
+        Ok(modules) => show_modules(alloc, &modules, out),
+        Err(_) => false,
+    }
+}
+
+fn show_modules(alloc: Global, modules: &ModuleSet, out: &mut String) -> bool {
+    match all_written(alloc, modules) {
+        Ok(program) => show_program(alloc, &program, out),
+        Err(_) => false,
+    }
+}
+
+fn show_program(alloc: Global, program: &Program, out: &mut String) -> bool {
+    // What is known of the statements of every program.
+    program.statements();
+    match inherit(alloc, program) {
+        Ok(stands) => show_spaces(alloc, &stands, out),
+        Err(_) => false,
+    }
+}
+
+fn show_spaces(alloc: Global, stands: &Spaces, out: &mut String) -> bool
+    requires standings { AreStandings stands.now }
+    requires nested { IsNested (statements_in stands.now) }
+{
+    let Ok(instances) = expand(alloc, stands) else {
+        return false;
+    };
+    // What is known of all that is placed.
+    instances.called();
+    show_placed(alloc, &instances, out)
+}
+
+fn show_placed(alloc: Global, instances: &Instances, out: &mut String) -> bool
+    requires { (es : List AnEntry) → AreEntries (namespaces_in instances.now) (items_in instances.now) es → ArePlainNames (namespaces_in instances.now) es }
+{
+    match declare(alloc, instances) {
+        Ok(names) => show_named(alloc, &*instances, &names, out),
+        Err(_) => false,
+    }
+}
+
+fn show_named<'a>(
+    alloc: Global,
+    instances: &Instances<'_, '_, 'a>,
+    names: &Names<'a>,
+    out: &mut String,
+) -> bool
+    requires entries { AreEntries (namespaces_in instances.now) (items_in instances.now) names.now }
+    requires plain { ArePlainNames (namespaces_in instances.now) names.now }
+{
+    let Ok(shared) = commons_of(alloc, instances, names) else {
+        return false;
+    };
+    match permissions_of(alloc, instances, names, shared.as_slice()) {
+        Ok(lists) => show_by_names(alloc, &*instances, &*names, lists.as_slice(), out),
+        Err(_) => false,
+    }
+}
+
+fn show_by_names<'a>(
+    alloc: Global,
+    instances: &Instances<'_, '_, 'a>,
+    names: &Names<'a>,
+    permissions: &[Vec<Bytes>],
+    out: &mut String,
+) -> bool
+    requires entries { AreEntries (namespaces_in instances.now) (items_in instances.now) names.now }
+    requires plain { ArePlainNames (namespaces_in instances.now) names.now }
+    requires permissions { ArePermissions (namespaces_in instances.now) names.now (items_in instances.now) permissions.now }
+{
+    let enabled = OptSet::of(Vec::new(alloc));
+    let Ok(asks) = asks_of(alloc, &*instances, &*names, permissions) else {
+        return false;
+    };
+    match settled(alloc, names, asks, &enabled) {
+        Ok(words) => show_words(alloc, instances, names, permissions, &enabled, &words, out),
+        Err(_) => false,
+    }
+}
+
+fn show_words(
+    alloc: Global,
+    instances: &Instances,
+    names: &Names,
+    permissions: &[Vec<Bytes>],
+    enabled: &OptSet,
+    words: &Words,
+    out: &mut String,
+) -> bool
+    requires entries { AreEntries (namespaces_in instances.now) (items_in instances.now) names.now }
+    requires plain { ArePlainNames (namespaces_in instances.now) names.now }
+    requires permissions { ArePermissions (namespaces_in instances.now) names.now (items_in instances.now) permissions.now }
+    requires table { IsTableOf (map (meanings (namespaces_in instances.now) names.now permissions.now (is_in enabled.now)) (items_in instances.now)) words.now }
+{
+    let lookup = Lookup {
+        namespaces: instances.namespaces(),
+        names,
+        enabled,
+    };
+    show_looked_up(alloc, instances, permissions, words, &lookup, out)
+}
+
+fn show_looked_up(
+    alloc: Global,
+    instances: &Instances,
+    permissions: &[Vec<Bytes>],
+    words: &Words,
+    lookup: &Lookup,
+    out: &mut String,
+) -> bool
+    requires namespaces { lookup.now.namespaces.now ≡ namespaces_in instances.now }
+    requires entries { AreEntries lookup.now.namespaces.now (items_in instances.now) lookup.now.names.now }
+    requires permissions { ArePermissions lookup.now.namespaces.now lookup.now.names.now (items_in instances.now) permissions.now }
+    requires plain { ArePlainNames lookup.now.namespaces.now lookup.now.names.now }
+    requires table { IsTableOf (map (meanings lookup.now.namespaces.now lookup.now.names.now permissions.now (is_in lookup.now.enabled.now)) (items_in instances.now)) words.now }
+{
+    // What is known of the numbers of namespaces.
+    lookup.namespaces.are_namespaces();
+    let Ok(numbering) = numbered(alloc, lookup) else {
+        return false;
+    };
+    let known = Known {
+        lookup: *lookup,
+        words,
+        numbers: numbering.numbers.as_slice(),
+        permissions,
+    };
+    show_orders(alloc, instances, &known, &numbering.sections, out)
+}
+
+/// Adds the lines of both orders.
+fn show_orders(
+    alloc: Global,
+    instances: &Instances,
+    known: &Known,
+    sections: &Sections,
+    out: &mut String,
+) -> bool
+    requires namespaces { known.now.lookup.namespaces.now ≡ namespaces_in instances.now }
+    requires table { IsTableOf (map (row_in known.now) (items_in instances.now)) known.now.words.now }
+    requires known { IsKnown known.now (items_in instances.now) (names_of sections.now) }
+    requires apart { AreApart known.now.lookup.names.now (enabled_in known.now) known.now.numbers.now }
+{
+    let sensitivities = sensitivity_order(alloc, instances, known, sections);
+    if !show_order(alloc, sections.sensitivities.as_slice(), sensitivities, out) {
+        return false;
+    }
+    let categories = category_order(alloc, instances, known, sections);
+    show_order(alloc, sections.categories.as_slice(), categories, out)
+}
+
+/// Adds the line of an order of these names.
+fn show_order(
+    alloc: Global,
+    names: &[Bytes],
+    order: Result<Option<Vec<usize>>, Failure>,
+    out: &mut String,
+) -> bool {
+    match order {
+        Ok(Some(row)) => show_names(names, row.as_slice(), out),
+        Ok(None) => out.push_str("none\n").is_ok(),
+        Err(Failure::Faults(faults)) => show_faults(alloc, &faults, out),
+        Err(Failure::NoMemory) => false,
+    }
+}
+
+/// Adds the names of these numbers, in their order.
+fn show_names(names: &[Bytes], row: &[usize], out: &mut String) -> bool {
+    for place in 0..row.len() {
+        if place > 0 && out.push_str(" ").is_err() {
+            return false;
+        }
+        if !show_name(names, row[place], out) {
+            return false;
+        }
+    }
+    out.push_str("\n").is_ok()
+}
+
+fn show_name(names: &[Bytes], number: usize, out: &mut String) -> bool {
+    match names.get(number) {
+        Some(name) => str::from_utf8(name.as_slice()).is_ok_and(|text| out.push_str(text).is_ok()),
+        None => false,
+    }
+}
+
+#[test]
+fn statements_fix_one_order_or_none(rt: HostRuntime) {
+    for &(text, want) in ROWS {
+        assert!(rt; are_lines(rt.alloc(), text, want), "{text}");
+    }
+}
