@@ -301,3 +301,17 @@ fn statements_fix_one_order_or_none(rt: HostRuntime) {
         assert!(rt; are_lines(rt.alloc(), text, want), "{text}");
     }
 }
+
+/// Both orders, with an alias.
+const REFUSED: (&str, &str) = (
+    "(sensitivity s)(sensitivity t)(sensitivityalias k)(sensitivityaliasactual k t)(sensitivityorder (k s))(category c)(category d)(categoryorder (c d))",
+    "t s\nc d\n",
+);
+
+#[test]
+fn a_refused_growth_fixes_no_other_order(rt: HostRuntime) {
+    let (text, want) = REFUSED;
+    // Where one growth is refused nothing is told, and once more all of it is.
+    let is_told = are_lines(rt.alloc(), text, want) || are_lines(rt.alloc(), text, want);
+    assert!(rt; is_told, "{text}");
+}
