@@ -149,4 +149,4 @@ no_alias xs flat s a d = of_declaration d.declaration d.declares d.of_kind
     of_declaration : (e : Declaration) → IsDeclaration xs s e → e.kind ≡ kinds.TypeAlias → ⊥
     of_declaration _ object k = let f : kinds.Role ≡ kinds.TypeAlias = k in cc
     of_declaration _ (by x e c on by_it) k =
-        declares_no_alias x.keyword (flat x c) (subst (Contains (entry_of x.keyword).declares) k (of_own_kind x.space (entry_of x.keyword).declares x.args e by_it))
+        declares_no_alias x.keyword (flat x c) kinds.TypeAlias refl (subst (Contains (entry_of x.keyword).declares) k (of_own_kind x.space (entry_of x.keyword).declares x.args e by_it))
