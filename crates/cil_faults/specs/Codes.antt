@@ -2,7 +2,7 @@
 use Rattle.std.specs.Prelude.{◌≡◌, ℕ, ◌==◌, if◌then◌else◌, refl}
 use Rattle.std.proofs.Common.{sym, ◌∙◌, ap}
 use Rattle.cil_faults.specs.declared.code.FaultCode.{FaultCode}
-use Rattle.cil_faults.specs.declared.code.FaultCode.TheVariants.{UnknownStatement, Unsupported, BadShape, BadPlace, BadName, ReservedName, ParameterClash, NameTwice, InheritUnresolved, InheritCycle, CallCycle, CallArguments, Clash, CallPlace, ExpansionLimit, Unresolved, AliasOpen, AliasTwice, AliasCycle, SetCycle, ClassWide, CommonTwice, TooMany, NeverAllow}
+use Rattle.cil_faults.specs.declared.code.FaultCode.TheVariants.{UnknownStatement, Unsupported, BadShape, BadPlace, BadName, ReservedName, ParameterClash, NameTwice, InheritUnresolved, InheritCycle, CallCycle, CallArguments, Clash, CallPlace, ExpansionLimit, Unresolved, AliasOpen, AliasTwice, AliasCycle, SetCycle, ClassWide, CommonTwice, SensitivityOrder, CategoryOrder, MlsTwice, TooMany, LevelCategory, RangeOrder, UserNoRange, UserRangeTwice, NeverAllow}
 
 -- the number of a cause
 abbrev pub number_of : FaultCode → ℕ
@@ -28,7 +28,14 @@ number_of AliasCycle = 53
 number_of SetCycle = 54
 number_of ClassWide = 55
 number_of CommonTwice = 56
+number_of SensitivityOrder = 57
+number_of CategoryOrder = 58
+number_of MlsTwice = 59
 number_of TooMany = 60
+number_of LevelCategory = 61
+number_of RangeOrder = 62
+number_of UserNoRange = 63
+number_of UserRangeTwice = 64
 number_of NeverAllow = 65
 
 -- the cause of a number
@@ -56,8 +63,15 @@ numbered n =
     else (if n == 54 then SetCycle
     else (if n == 55 then ClassWide
     else (if n == 56 then CommonTwice
+    else (if n == 57 then SensitivityOrder
+    else (if n == 58 then CategoryOrder
+    else (if n == 59 then MlsTwice
     else (if n == 60 then TooMany
-    else NeverAllow))))))))))))))))))))))
+    else (if n == 61 then LevelCategory
+    else (if n == 62 then RangeOrder
+    else (if n == 63 then UserNoRange
+    else (if n == 64 then UserRangeTwice
+    else NeverAllow)))))))))))))))))))))))))))))
 
 numbered-number_of : (c : FaultCode) → numbered (number_of c) ≡ c
 unfolding numbered
@@ -83,7 +97,14 @@ numbered-number_of AliasCycle = refl
 numbered-number_of SetCycle = refl
 numbered-number_of ClassWide = refl
 numbered-number_of CommonTwice = refl
+numbered-number_of SensitivityOrder = refl
+numbered-number_of CategoryOrder = refl
+numbered-number_of MlsTwice = refl
 numbered-number_of TooMany = refl
+numbered-number_of LevelCategory = refl
+numbered-number_of RangeOrder = refl
+numbered-number_of UserNoRange = refl
+numbered-number_of UserRangeTwice = refl
 numbered-number_of NeverAllow = refl
 
 -- no two causes have one number

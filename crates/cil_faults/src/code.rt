@@ -49,8 +49,22 @@ pub enum FaultCode {
     ClassWide,
     /// A class shares the permissions of two different commons.
     CommonTwice,
+    /// The sensitivities have no order, or several.
+    SensitivityOrder,
+    /// The categories have no order, or several.
+    CategoryOrder,
+    /// Levels are turned on and off at once.
+    MlsTwice,
     /// The policy has more of one kind than a policy may have.
     TooMany,
+    /// A level has a category that is not permitted to its sensitivity.
+    LevelCategory,
+    /// The high end of a range does not dominate the low end, or a range of categories goes downwards.
+    RangeOrder,
+    /// A user has no range, though levels are on.
+    UserNoRange,
+    /// Statements give a user two different ranges.
+    UserRangeTwice,
     /// A statement allows what another forbids.
     NeverAllow,
 }
@@ -86,7 +100,14 @@ impl FaultCode {
             FaultCode::SetCycle => 54,
             FaultCode::ClassWide => 55,
             FaultCode::CommonTwice => 56,
+            FaultCode::SensitivityOrder => 57,
+            FaultCode::CategoryOrder => 58,
+            FaultCode::MlsTwice => 59,
             FaultCode::TooMany => 60,
+            FaultCode::LevelCategory => 61,
+            FaultCode::RangeOrder => 62,
+            FaultCode::UserNoRange => 63,
+            FaultCode::UserRangeTwice => 64,
             FaultCode::NeverAllow => 65,
         }
     }
@@ -117,7 +138,14 @@ impl fmt::Display for FaultCode {
             FaultCode::SetCycle => write!(f, "set that depends on itself"),
             FaultCode::ClassWide => write!(f, "class with too many permissions"),
             FaultCode::CommonTwice => write!(f, "class with two different commons"),
+            FaultCode::SensitivityOrder => write!(f, "no one order of sensitivities"),
+            FaultCode::CategoryOrder => write!(f, "no one order of categories"),
+            FaultCode::MlsTwice => write!(f, "levels both on and off"),
             FaultCode::TooMany => write!(f, "too many of one kind"),
+            FaultCode::LevelCategory => write!(f, "category not permitted to the sensitivity"),
+            FaultCode::RangeOrder => write!(f, "range from high to low"),
+            FaultCode::UserNoRange => write!(f, "user without a range"),
+            FaultCode::UserRangeTwice => write!(f, "user with two ranges"),
             FaultCode::NeverAllow => write!(f, "forbidden and allowed"),
         }
     }

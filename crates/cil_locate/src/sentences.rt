@@ -33,7 +33,14 @@ pub(crate) fn sentence(code: FaultCode) -> &'static str
         FaultCode::SetCycle => "set that depends on itself",
         FaultCode::ClassWide => "class with too many permissions",
         FaultCode::CommonTwice => "class with two different commons",
+        FaultCode::SensitivityOrder => "no one order of sensitivities",
+        FaultCode::CategoryOrder => "no one order of categories",
+        FaultCode::MlsTwice => "levels both on and off",
         FaultCode::TooMany => "too many of one kind",
+        FaultCode::LevelCategory => "category not permitted to the sensitivity",
+        FaultCode::RangeOrder => "range from high to low",
+        FaultCode::UserNoRange => "user without a range",
+        FaultCode::UserRangeTwice => "user with two ranges",
         FaultCode::NeverAllow => "forbidden and allowed",
     }
 }

@@ -134,7 +134,14 @@ fn of_policies(alloc: Global) -> Result<String, Fail> {
         FaultCode::SetCycle,
         FaultCode::ClassWide,
         FaultCode::CommonTwice,
+        FaultCode::SensitivityOrder,
+        FaultCode::CategoryOrder,
+        FaultCode::MlsTwice,
         FaultCode::TooMany,
+        FaultCode::LevelCategory,
+        FaultCode::RangeOrder,
+        FaultCode::UserNoRange,
+        FaultCode::UserRangeTwice,
         FaultCode::NeverAllow,
     ] {
         write!(out, "{} {code}\n", code.number())?;
@@ -159,7 +166,9 @@ fn faults_have_their_numbers_and_sentences(rt: HostRuntime) -> Result<(), Fail> 
         "21 unknown statement\n22 not supported\n23 wrong shape\n25 no name\n26 reserved word\n36 two different declarations\n\
         41 unresolved name\n51 alias without a target\n52 alias with two targets\n53 alias that leads to itself\n\
         54 set that depends on itself\n55 class with too many permissions\n56 class with two different commons\n\
-        60 too many of one kind\n65 forbidden and allowed\nno memory, no memory, no memory, NoMemory\n"
+        57 no one order of sensitivities\n58 no one order of categories\n59 levels both on and off\n60 too many of one kind\n\
+        61 category not permitted to the sensitivity\n62 range from high to low\n63 user without a range\n64 user with two ranges\n\
+        65 forbidden and allowed\nno memory, no memory, no memory, NoMemory\n"
     );
     Ok(())
 }
