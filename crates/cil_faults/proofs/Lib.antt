@@ -1,2 +1,3 @@
+pub mod BothLemmas
 pub mod RefusalLemmas
 pub mod SortedFaults

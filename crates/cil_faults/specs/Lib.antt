@@ -1,3 +1,4 @@
+pub mod Both
 pub mod Codes
 pub mod Fails
 pub mod FaultOrder

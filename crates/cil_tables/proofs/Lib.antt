@@ -1,7 +1,6 @@
 pub mod AgreesLemmas
 pub mod AliasLemmas
 pub mod AlwaysCompiles
-pub mod BothLemmas
 pub mod CompileLemmas
 pub mod FamilyExists
 pub mod Finite

@@ -2,7 +2,6 @@ pub mod Agrees
 pub mod AliasRows
 pub mod Aliases
 pub mod Booleans
-pub mod Both
 pub mod CompileAnswer
 pub mod CompileRefusal
 pub mod CompileSteps

@@ -24,7 +24,6 @@ ghost use Rattle.cil_tables.specs.SetsStep.{SetsFault};
 ghost use Rattle.cil_tables.specs.Standings.{AllStand};
 ghost use Rattle.cil_tables.specs.Table.{most_booleans};
 
-use crate::both::{Both, together};
 use crate::filled::{fill_sections, tables_from};
 use crate::limit::check_booleans;
 use crate::standings::{Standings, standings_of};
@@ -32,7 +31,7 @@ use crate::tables::Tables;
 use cil_base::{Bytes, NoMemory};
 use cil_blocks::{Spaces, inherit};
 use cil_classes::{Classes, classes};
-use cil_faults::Failure;
+use cil_faults::{Both, Failure, together};
 use cil_macros::{Instances, expand};
 use cil_modset::ModuleSet;
 use cil_names::{

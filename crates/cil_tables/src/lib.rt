@@ -9,7 +9,6 @@
 
 mod aliases;
 mod booleans;
-mod both;
 mod compiler;
 mod context;
 mod filled;

@@ -11,10 +11,9 @@ ghost use Rattle.cil_names.specs.Rows.{IsTableOf};
 ghost use Rattle.cil_tables.specs.SetsStep.{MembersFault};
 ghost use Rattle.cil_tables.specs.Standings.{AllStand, AreAllMembers};
 
-use crate::both::{Both, together};
 use cil_attrs::{Members, Roles, Types, Users, members, standing_of};
 use cil_base::NoMemory;
-use cil_faults::Failure;
+use cil_faults::{Both, Failure, together};
 use cil_macros::Instances;
 use cil_names::{Known, Sections};
 use cil_sets::Numbers;

@@ -8,7 +8,7 @@ use Rattle.cil_macros.specs.Items.{items_in}
 use Rattle.cil_names.specs.Known.{enabled_in}
 use Rattle.cil_names.specs.Numbers.{AreApart}
 use Rattle.cil_tables.specs.Named.{IsNameOf}
-use Rattle.cil_tables.proofs.BothLemmas.{answers_both}
+use Rattle.cil_faults.proofs.BothLemmas.{answers_both}
 use Rattle.cil_tables.proofs.NamedLemmas.{names_are}
 use Rattle.cil_tables.proofs.compiler.judged_sets.Goals as goal
 

@@ -8,7 +8,7 @@ use Rattle.cil_faults.proofs.RefusalLemmas.{refused}
 use Rattle.cil_macros.specs.Items.{items_in}
 use Rattle.cil_tables.specs.SetsStep.{MembersFault}
 use Rattle.cil_tables.specs.Standings.{AreAllMembers}
-use Rattle.cil_tables.proofs.BothLemmas.{answers_both}
+use Rattle.cil_faults.proofs.BothLemmas.{answers_both}
 use Rattle.cil_tables.proofs.SpaceLemmas.{roles_space, types_space, users_space}
 use Rattle.cil_tables.proofs.standings.all_members.Goals as goal
 

@@ -5,8 +5,8 @@ use Rattle.cil_faults.specs.Refusal.{Answers, Fails}
 use Rattle.cil_faults.specs.declared.failure.Failure.{Failure}
 use Rattle.cil_faults.specs.declared.failure.Failure.TheVariants.{Faults, NoMemory}
 use Rattle.cil_faults.specs.declared.fault.Fault.{Fault}
-use Rattle.cil_tables.specs.Both.{AreJoined, IsBoth}
-use Rattle.cil_tables.specs.declared.both.Both.{Both}
+use Rattle.cil_faults.specs.Both.{AreJoined, IsBoth}
+use Rattle.cil_faults.specs.declared.both.Both.{Both}
 
 module _ {A B : Type 0} (P : A → Type 0) (Q : B → Type 0) (S T : Fault → Type 0) where
   abbrev Either : Fault → Type 0

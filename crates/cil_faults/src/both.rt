@@ -2,9 +2,10 @@
 
 ghost use Rattle.std.specs.Prelude.{Ok};
 ghost use Rattle.cil_faults.specs.declared.failure.Failure.TheVariants.{Faults};
-ghost use Rattle.cil_tables.specs.Both.{AreJoined, FailsWith, IsBoth};
+ghost use Rattle.cil_faults.specs.Both.{AreJoined, FailsWith, IsBoth};
 
-use cil_faults::{Failure, FaultList};
+use crate::failure::Failure;
+use crate::fault_list::FaultList;
 
 /// Two values.
 #[derive(Drop)]
@@ -16,7 +17,7 @@ pub struct Both<A, B> {
 }
 
 /// Both values, where there are both. Errors: the faults of the one and of the other together, or out of memory.
-pub(crate) fn together<A: Drop, B: Drop>(
+pub fn together<A: Drop, B: Drop>(
     first: Result<A, Failure>,
     second: Result<B, Failure>,
 ) -> Result<Both<A, B>, Failure>

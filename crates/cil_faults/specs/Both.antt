@@ -1,9 +1,9 @@
--- Two answers, and what is wrong with either. No other crate needs these words.
+-- Two answers of one step, and what is wrong with either. This project's profile.
 use Rattle.std.specs.Prelude.{◌≡◌, ◌⊎◌, Contains, Result, Ok, Err}
 use Rattle.cil_faults.specs.Fails.{AreFaults}
 use Rattle.cil_faults.specs.declared.failure.Failure.{Failure}
 use Rattle.cil_faults.specs.declared.failure.Failure.TheVariants.{Faults, NoMemory}
-use Rattle.cil_tables.specs.declared.both.Both.{Both}
+use Rattle.cil_faults.specs.declared.both.Both.{Both}
 
 -- the faults of both; want of memory says nothing
 abbrev pub AreJoined : Failure → Failure → Failure → Type 0
