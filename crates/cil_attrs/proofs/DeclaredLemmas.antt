@@ -35,7 +35,7 @@ use Rattle.cil_attrs.specs.Targets.{IsToldAt}
 use Rattle.cil_attrs.proofs.FaultLemmas.{its_entry}
 
 -- a statement that declares something says what is written
-declares_written : (keyword : Keyword) (kind : Kind) → Contains (entry_of keyword).declares kind → says_as_written keyword ≡ true
+pub declares_written : (keyword : Keyword) (kind : Kind) → Contains (entry_of keyword).declares kind → says_as_written keyword ≡ true
 unfolding entry_of
 declares_written keywords.BlockInherit kind c = absurd (contains_none kind c)
 declares_written keywords.BlockAbstract kind c = absurd (contains_none kind c)

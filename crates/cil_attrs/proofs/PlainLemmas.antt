@@ -43,7 +43,7 @@ module _ (f : Word → ScopedWord) where
         let p = parts (not (is_class_list op)) (are_plain ts) e in
         ap (λ b. if b then words_of_class (all_replaced (λ at. at) f ts) else all_wanted_in (all_replaced (λ at. at) f ts)) (not_so (is_class_list op) p.0) ∙ all_plain_wanted ts p.1
 
-    all_plain_wanted : (ts : Terms Word) → are_plain ts ≡ true → all_wanted_in (all_replaced (λ at. at) f ts) ≡ map AWord (all_words_in (all_replaced (λ at. at) f ts))
+    pub all_plain_wanted : (ts : Terms Word) → are_plain ts ≡ true → all_wanted_in (all_replaced (λ at. at) f ts) ≡ map AWord (all_words_in (all_replaced (λ at. at) f ts))
     all_plain_wanted nil e = refl
     all_plain_wanted (cons t ts) e =
         let p = parts (is_plain t) (are_plain ts) e in

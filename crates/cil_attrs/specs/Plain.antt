@@ -1,4 +1,4 @@
--- Expressions that name no permissions, so that what they ask for is their words. No other crate needs these words.
+-- Expressions that name no permissions, so that what they ask for is their words.
 use Rattle.std.specs.Prelude.{◌≡◌, Bool, true, ◌&&◌, not, List, Contains}
 use Rattle.cil_syntax.specs.Forms.{is_class_list}
 use Rattle.cil_syntax.specs.Terms.{Term, Leaf, Name, Form, Terms, nil, cons}

@@ -114,7 +114,7 @@ fn flagged_name<'a>(
 }
 
 /// Whether statements of this keyword declare symbols of this kind.
-fn declares(keyword: Keyword, kind: Kind) -> bool
+pub fn declares(keyword: Keyword, kind: Kind) -> bool
     ensures { IsTrue result ↔ Contains (entry_of keyword).declares kind }
 {
     match keyword.declares() {

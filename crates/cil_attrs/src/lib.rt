@@ -29,9 +29,11 @@ mod targets;
 mod way;
 
 pub use checked::members;
+pub use declared::{Told, declares, push_declared};
 pub use evaluator::{Evaluator, Held};
 pub use faults::check_sets;
 pub use giver::{SetKind, SpaceKinds};
 pub use held::Members;
+pub use plain::are_plain;
 pub use space::{Categories, Limit, Roles, Sensitivities, Space, Types, Users};
 pub use standing::standing_of;

@@ -37,8 +37,9 @@ fn is_plain(term: &Term) -> bool
     }
 }
 
+/// The same of some terms.
 #[cycle(plain)]
-fn are_plain(parts: &[Term]) -> bool
+pub fn are_plain(parts: &[Term]) -> bool
     ensures { (m : ℕ) → result ≡ are_plain (all_said m parts.now) }
 {
     for part in parts {

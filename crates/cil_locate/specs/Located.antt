@@ -3,7 +3,7 @@ use Rattle.std.specs.Prelude.{ℕ, Bool, true, false, if◌then◌else◌, List,
 use Rattle.std.specs.List.{flat_map}
 use Rattle.std.specs.Option.{option_map_or}
 use Rattle.cil_faults.specs.declared.code.FaultCode.{FaultCode}
-use Rattle.cil_faults.specs.declared.code.FaultCode.TheVariants.{ExpansionLimit, TooMany}
+use Rattle.cil_faults.specs.declared.code.FaultCode.TheVariants.{CategoryOrder, ExpansionLimit, MlsTwice, SensitivityOrder, TooMany}
 use Rattle.cil_faults.specs.declared.fault.Fault.{Fault}
 use Rattle.cil_optionals.specs.declared.lines.WhyLine.{WhyLine}
 use Rattle.cil_locate.specs.Files.{SourceFile, file_at}
@@ -15,6 +15,9 @@ use Rattle.cil_locate.specs.declared.told.Told.{Told}
 -- a fault of this kind is of the whole policy: it has no place
 abbrev pub is_of_policy : FaultCode → Bool
 is_of_policy ExpansionLimit = true
+is_of_policy SensitivityOrder = true
+is_of_policy CategoryOrder = true
+is_of_policy MlsTwice = true
 is_of_policy TooMany = true
 is_of_policy _ = false
 

@@ -58,5 +58,12 @@ pub(crate) fn push_told(told: &mut Vec<Told>, origin: usize, at: u64) -> Result<
 fn is_of_policy(code: FaultCode) -> bool
     ensures { result ≡ is_of_policy code }
 {
-    matches!(code, FaultCode::ExpansionLimit | FaultCode::TooMany)
+    matches!(
+        code,
+        FaultCode::ExpansionLimit
+            | FaultCode::SensitivityOrder
+            | FaultCode::CategoryOrder
+            | FaultCode::MlsTwice
+            | FaultCode::TooMany
+    )
 }

@@ -6,6 +6,7 @@ pub mod HashLemmas
 pub mod ItemLemmas
 pub mod LevelLemmas
 pub mod NameLemmas
+pub mod OrderFaultLemmas
 pub mod OrderLemmas
 pub mod OrderSpaces
 pub mod OrderingLemmas
@@ -13,7 +14,9 @@ pub mod PairLemmas
 pub mod PartLemmas
 pub mod RisingLemmas
 pub mod SameLemmas
+pub mod SetEdgeLemmas
 pub mod SpanLemmas
+pub mod SwitchLemmas
 pub mod SymbolLemmas
 pub mod WordLemmas
 pub mod WordListLemmas

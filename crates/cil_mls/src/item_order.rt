@@ -32,7 +32,7 @@ use std::alloc::Global;
 /// A statement costs a step, and each word that is listed two copies of a set of one number; then it costs what `order_of` costs.
 ///
 /// Errors: the faults of aliases of sensitivities, without which no order is judged; or out of memory.
-pub fn sensitivity_order(
+pub(crate) fn sensitivity_order(
     alloc: Global,
     instances: &Instances,
     known: &Known,
@@ -64,7 +64,7 @@ pub fn sensitivity_order(
 /// of categories take no part.
 ///
 /// Errors: the faults of aliases of categories, or out of memory.
-pub fn category_order(
+pub(crate) fn category_order(
     alloc: Global,
     instances: &Instances,
     known: &Known,

@@ -2,15 +2,20 @@
 //! levels and ranges. The CIL Reference Guide has them in "Multi-Level Security Labeling Statements", The SELinux Notebook in
 //! "Multi-Level Security and Multi-Category Security".
 //!
-//! Start at `level.rt`: a `Level` is a sensitivity and a set of categories (`categories.rt`), all by their places in two orders.
-//! `sensitivity_order` and `category_order`, in `item_order.rt`, find the one order that statements fix, by the pairs of numbers that
-//! these list (`pairs.rt`) and by `order_of` (`order.rt`); `specs/Ordering.antt` and `specs/Orders.antt` say which orders are right.
+//! Start at `orders`, in `ordered.rt`: the sensitivities and categories of a policy in the one order that its statements fix, and
+//! whether its levels are on, or exactly what is wrong with them (`specs/OrderFaults.antt`). `specs/Ordering.antt` and
+//! `specs/Orders.antt` say which orders are right; `item_order.rt` finds them, by the pairs of numbers that statements list (`pairs.rt`)
+//! and by `order_of` (`order.rt`); `switch.rt` reads `mls` statements, `category_sets.rt` finds sets that depend on themselves
+//! (`specs/CategorySets.antt`), and `policy_faults.rt` makes faults that have no place.
+//!
+//! A `Level` (`level.rt`) is a sensitivity and a set of categories (`categories.rt`), all by their places in the two orders, and
 //! `specs/Dominance.antt` says which level dominates which. `LevelNames`, in `level_names.rt`, reads the text of a level or a range
-//! (`specs/LevelTexts.antt`). `laws.rt` says that an order and the level of a text are one. Terms of levels are not read here, and no
-//! crate calls this one yet.
+//! (`specs/LevelTexts.antt`). `laws.rt` says that an order and the level of a text are one. Not done here: the members of sets of
+//! categories, and terms of levels. No crate calls this one yet.
 #![tactic(auto)]
 
 mod categories;
+mod category_sets;
 mod item_order;
 pub mod laws;
 mod level;
@@ -19,16 +24,19 @@ mod level_names;
 mod level_tests;
 mod named;
 mod order;
+mod ordered;
 mod pairs;
 mod parts;
+mod policy_faults;
+mod switch;
 #[cfg(test)]
 mod tests;
 mod texts;
 mod words;
 
 pub use categories::{Categories, MOST_CATEGORIES};
-pub use item_order::{category_order, sensitivity_order};
 pub use level::{Level, Range};
 pub use level_names::{LevelNames, MOST_SENSITIVITIES};
 pub use named::Named;
 pub use order::order_of;
+pub use ordered::{Orders, orders};

@@ -166,7 +166,7 @@ fn lists_words(terms: &[Term]) -> bool
 }
 
 /// The one term of some.
-fn only<'t, 'a>(terms: &'t [Term<'a>]) -> Option<&'t Term<'a>>
+pub(crate) fn only<'t, 'a>(terms: &'t [Term<'a>]) -> Option<&'t Term<'a>>
     ensures { (m : ℕ) → MatchOption result (length terms.now ≡ 1 → ⊥) (λ t. all_said m terms.now ≡ cons (said_of m t.now) nil) }
 {
     match terms {

@@ -1,4 +1,5 @@
-//! The orders of sensitivities and of categories. A host refuses their statements by name, so no session shows them.
+//! The orders of sensitivities and of categories, and whether levels are on. A host refuses their statements by name, so no session
+//! shows them.
 
 ghost use Rattle.std.specs.Prelude.{◌≡◌, List, map};
 ghost use Rattle.cil_syntax.specs.Program.{IsNested};
@@ -16,7 +17,7 @@ use crate::growths::show_faults;
 use cil_base::Bytes;
 use cil_blocks::{Spaces, inherit};
 use cil_macros::{Instances, expand};
-use cil_mls::{category_order, sensitivity_order};
+use cil_mls::{Orders, orders};
 use cil_modset::ModuleSet;
 use cil_names::{
     Known, Lookup, Names, OptSet, Sections, Words, commons_of, declare, numbered, permissions_of,
@@ -25,77 +26,119 @@ use cil_syntax::{Failure, Program, all_written};
 use cil_text_tests::set_of;
 use cil_words::{asks_of, settled};
 use std::alloc::Global;
+use std::test::Fail;
 
-/// A text, and a line for each of its two orders: the names from the lowest on, `none` where there is no order or several, or the
-/// faults of aliases.
+/// A text, and what `orders` says of it: a line for each order with the names from the lowest on, and whether levels are on; or the
+/// faults.
 const ROWS: &[(&str, &str)] = &[
     // nothing is in one order, and so is one item
-    ("(type t)", "\n\n"),
-    ("(sensitivity s)(category c)", "s\nc\n"),
+    ("(type t)", "\n\noff\n"),
+    ("(sensitivity s)(category c)", "s\nc\noff\n"),
     // each item is joined to the next, whatever the order of names and of statements
     (
         "(sensitivity s0)(sensitivity s1)(sensitivity s2)(sensitivityorder (s1 s2))(sensitivityorder (s0 s1))",
-        "s0 s1 s2\n\n",
+        "s0 s1 s2\n\noff\n",
     ),
     (
         "(category a)(category c)(category b)(categoryorder (c b a))",
-        "\nc b a\n",
+        "\nc b a\noff\n",
     ),
     // a pair that is not joined, a circle, an item above itself
     (
         "(sensitivity s0)(sensitivity s1)(sensitivity s2)(sensitivityorder (s0 s1))(sensitivityorder (s2))",
-        "none\n\n",
+        "57 0 0 . -\n",
     ),
     (
         "(sensitivity s0)(sensitivity s1)(sensitivity s2)(sensitivityorder (s0 s1))(sensitivityorder (s1 s2))(sensitivityorder (s2 s0))",
-        "none\n\n",
+        "57 0 0 . -\n",
     ),
-    ("(category c)(categoryorder (c c))", "\nnone\n"),
+    ("(category c)(categoryorder (c c))", "58 0 0 . -\n"),
     (
         "(category a)(category b)(category c)(category d)(categoryorder (a b d))(categoryorder (a c d))",
-        "\nnone\n",
+        "58 0 0 . -\n",
     ),
     // the end of one statement is not joined to the beginning of the next
     (
         "(category a)(category b)(category c)(category d)(categoryorder (a b))(categoryorder (c d))",
-        "\nnone\n",
+        "58 0 0 . -\n",
+    ),
+    // both are judged
+    (
+        "(sensitivity s)(sensitivity t)(category c)(category d)",
+        "57 0 0 . -\n58 0 0 . -\n",
     ),
     // what follows from other pairs is not said twice
     (
         "(category a)(category b)(category c)(categoryorder (a b c))(categoryorder (a c))(categoryorder (b c))",
-        "\na b c\n",
+        "\na b c\noff\n",
     ),
     // an alias stands for its item, in steps too, and is no item of its own
     (
         "(sensitivity x)(sensitivity y)(sensitivityalias k)(sensitivityaliasactual k y)(sensitivityalias l)(sensitivityaliasactual l k)(sensitivityorder (l x))",
-        "y x\n\n",
+        "y x\n\noff\n",
     ),
     (
         "(category c)(categoryalias k)(categoryaliasactual k c)(categoryorder (k c))",
-        "\nnone\n",
+        "58 0 0 . -\n",
     ),
     // a set of categories takes no part
     (
         "(category c)(category d)(categoryset e (c d))(categoryorder (d c))",
-        "\nd c\n",
+        "\nd c\noff\n",
     ),
-    // 51, 52, 53: no order is judged, and the other one is
+    // 51, 52, 53: no order of that name space is judged, and the other one is
     (
         "(sensitivity s)(sensitivity t)(sensitivityalias k)(category c)(category d)(categoryorder (d c))",
-        "51 0 48 . k\nd c\n",
+        "51 0 48 . k\n",
+    ),
+    (
+        "(sensitivity s)(sensitivity t)(sensitivityalias k)(category c)(category d)",
+        "51 0 48 . k\n58 0 0 . -\n",
     ),
     (
         "(category c)(category d)(categoryalias k)(categoryaliasactual k c)(categoryaliasactual k d)",
-        "\n52 0 62 . k\n52 0 87 . k\n",
+        "52 0 62 . k\n52 0 87 . k\n",
     ),
     (
         "(category c)(categoryalias k)(categoryalias l)(categoryaliasactual k l)(categoryaliasactual l k)",
-        "\n53 0 27 . k\n53 0 44 . l\n",
+        "53 0 27 . k\n53 0 44 . l\n",
     ),
     // qualified names
     (
         "(block b (category c)(category a)(categoryorder (c a)))(category z)(categoryorder (b.a z))",
-        "\nb.c b.a z\n",
+        "\nb.c b.a z\noff\n",
+    ),
+    // 54: sets of categories that depend on themselves, in one step or more, told at each declaration; what only leads to one is none
+    ("(categoryset s (s))", "54 0 13 . s\n"),
+    (
+        "(category c)(categoryset a (b c))(categoryset b ((not a)))",
+        "54 0 25 . a\n54 0 46 . b\n",
+    ),
+    ("(categoryset a (b))(categoryset b (b))", "54 0 32 . b\n"),
+    (
+        "(categoryset s (s))(categoryset s (s))",
+        "54 0 13 . s\n54 0 32 . s\n",
+    ),
+    (
+        "(block b (categoryset s (t)))(categoryset t (b.s))",
+        "54 0 22 b s\n54 0 42 . t\n",
+    ),
+    (
+        "(category c)(category d)(categoryset s (s))",
+        "54 0 37 . s\n58 0 0 . -\n",
+    ),
+    (
+        "(category c)(categoryalias k)(categoryaliasactual k c)(categoryset s (k (range c k) (all)))(categoryset t (s))",
+        "\nc\noff\n",
+    ),
+    // levels are on, off, and both
+    ("(mls true)", "\n\non\n"),
+    ("(mls false)", "\n\noff\n"),
+    ("(mls true)(mls true)", "\n\non\n"),
+    ("(mls true)(mls false)", "59 0 0 . -\n"),
+    (
+        "(block b (mls false))(mls true)(sensitivity s)(sensitivity t)",
+        "57 0 0 . -\n59 0 0 . -\n",
     ),
 ];
 
@@ -239,7 +282,7 @@ fn show_looked_up(
     show_orders(alloc, instances, &known, &numbering.sections, out)
 }
 
-/// Adds the lines of both orders.
+/// Adds the lines of both orders, and whether levels are on; or those of the faults.
 fn show_orders(
     alloc: Global,
     instances: &Instances,
@@ -252,27 +295,30 @@ fn show_orders(
     requires known { IsKnown known.now (items_in instances.now) (names_of sections.now) }
     requires apart { AreApart known.now.lookup.names.now (enabled_in known.now) known.now.numbers.now }
 {
-    let sensitivities = sensitivity_order(alloc, instances, known, sections);
-    if !show_order(alloc, sections.sensitivities.as_slice(), sensitivities, out) {
-        return false;
-    }
-    let categories = category_order(alloc, instances, known, sections);
-    show_order(alloc, sections.categories.as_slice(), categories, out)
-}
-
-/// Adds the line of an order of these names.
-fn show_order(
-    alloc: Global,
-    names: &[Bytes],
-    order: Result<Option<Vec<usize>>, Failure>,
-    out: &mut String,
-) -> bool {
-    match order {
-        Ok(Some(row)) => show_names(names, row.as_slice(), out),
-        Ok(None) => out.push_str("none\n").is_ok(),
+    match orders(alloc, instances, known, sections) {
+        Ok(orders) => show_found(sections, &orders, out),
         Err(Failure::Faults(faults)) => show_faults(alloc, &faults, out),
         Err(Failure::NoMemory) => false,
     }
+}
+
+fn show_found(sections: &Sections, orders: &Orders, out: &mut String) -> bool {
+    if !show_names(
+        sections.sensitivities.as_slice(),
+        orders.sensitivities.as_slice(),
+        out,
+    ) {
+        return false;
+    }
+    if !show_names(
+        sections.categories.as_slice(),
+        orders.categories.as_slice(),
+        out,
+    ) {
+        return false;
+    }
+    let switch = if orders.are_on { "on\n" } else { "off\n" };
+    out.push_str(switch).is_ok()
 }
 
 /// Adds the names of these numbers, in their order.
@@ -302,10 +348,10 @@ fn statements_fix_one_order_or_none(rt: HostRuntime) {
     }
 }
 
-/// Both orders, with an alias.
+/// Both orders, with an alias and a set in a set.
 const REFUSED: (&str, &str) = (
-    "(sensitivity s)(sensitivity t)(sensitivityalias k)(sensitivityaliasactual k t)(sensitivityorder (k s))(category c)(category d)(categoryorder (c d))",
-    "t s\nc d\n",
+    "(mls true)(sensitivity s)(sensitivity t)(sensitivityalias k)(sensitivityaliasactual k t)(sensitivityorder (k s))(category c)(category d)(categoryorder (c d))(categoryset a (c))(categoryset b (a d))",
+    "t s\nc d\non\n",
 );
 
 #[test]
@@ -314,4 +360,51 @@ fn a_refused_growth_fixes_no_other_order(rt: HostRuntime) {
     // Where one growth is refused nothing is told, and once more all of it is.
     let is_told = are_lines(rt.alloc(), text, want) || are_lines(rt.alloc(), text, want);
     assert!(rt; is_told, "{text}");
+}
+
+/// How many sensitivities and categories pass (60): the word that declares them, how many there are, whether their order is said, and the
+/// faults.
+const LIMITS: &[(&str, usize, bool, &str)] = &[
+    ("sensitivity", 256, true, ""),
+    ("sensitivity", 257, true, "60 0 0 . sensitivities\n"),
+    (
+        "sensitivity",
+        257,
+        false,
+        "57 0 0 . -\n60 0 0 . sensitivities\n",
+    ),
+    ("category", 1024, true, ""),
+    ("category", 1025, true, "60 0 0 . categories\n"),
+    ("category", 1025, false, "58 0 0 . -\n60 0 0 . categories\n"),
+];
+
+/// A text that declares so many, `x0` first, and lists them in one order statement if that is wanted.
+fn declaring(alloc: Global, word: &str, count: usize, is_ordered: bool) -> Result<String, Fail> {
+    let mut text = String::new(alloc);
+    for number in 0..count {
+        write!(text, "({word} x{number})")?;
+    }
+    if is_ordered {
+        write!(text, "({word}order (")?;
+        for number in 0..count {
+            write!(text, "x{number} ")?;
+        }
+        write!(text, "))")?;
+    }
+    Ok(text)
+}
+
+#[test]
+fn there_are_no_more_than_pass(rt: HostRuntime) -> Result<(), Fail> {
+    for &(word, count, is_ordered, want) in LIMITS {
+        let text = declaring(rt.alloc(), word, count, is_ordered)?;
+        let mut out = String::new(rt.alloc());
+        assert!(rt;
+            show_texts(rt.alloc(), &[text.as_str()], &mut out),
+            "{word} {count}"
+        );
+        let end = if want == "" { "off\n" } else { want };
+        assert!(rt; out.as_str().ends_with(end), "{word} {count}");
+    }
+    Ok(())
 }
