@@ -27,7 +27,7 @@ use Rattle.cil_macros.proofs.ItemsThere.{keyword_there}
 use Rattle.cil_macros.proofs.SaidTerms.{SaysTerms, front_said, front_written, terms_there}
 use Rattle.cil_names.specs.Declarations.{Symbol}
 use Rattle.cil_names.specs.Entries.{AreEntries, HasNoEntryIn, IsEntryIn}
-use Rattle.cil_names.specs.Numbers.{symbol_of}
+use Rattle.cil_names.specs.Symbols.{symbol_of}
 use Rattle.cil_names.specs.declared.entry.Entry.{Entry}
 use Rattle.cil_names.proofs.CandidateLemmas.{they_are}
 use Rattle.cil_attrs.specs.SetFaults.{DeclaresAt}

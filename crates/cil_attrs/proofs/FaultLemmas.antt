@@ -27,12 +27,13 @@ use Rattle.cil_macros.specs.Item.{Item, OptSet}
 use Rattle.cil_macros.specs.Items.{Kept, item_at, items_in, may_say_lists, says_as_written}
 use Rattle.cil_names.specs.Declarations.{Declaration, Symbol, by, content_of, declarations, declared_by, name_of, nowhere}
 use Rattle.cil_names.specs.Entries.{AreEntries}
-use Rattle.cil_names.specs.Family.{DependsOn, no_range}
-use Rattle.cil_names.specs.Known.{IsKnown, enabled_in}
-use Rattle.cil_names.specs.Numbers.{IsNameAmong, has_section, symbol_of}
-use Rattle.cil_names.specs.Spaces.{Sets, SpaceOf, any_sets}
+use Rattle.cil_known.specs.Family.{DependsOn, no_range}
+use Rattle.cil_known.specs.Known.{IsKnown, enabled_in}
+use Rattle.cil_known.specs.Numbers.{IsNameAmong, has_section}
+use Rattle.cil_names.specs.Symbols.{symbol_of}
+use Rattle.cil_known.specs.Spaces.{Sets, SpaceOf, any_sets}
 use Rattle.cil_names.specs.declared.entry.Entry.{Entry}
-use Rattle.cil_names.specs.declared.known.Known.{Known}
+use Rattle.cil_known.specs.declared.known.Known.{Known}
 use Rattle.cil_names.proofs.DeclareDecided.{symbol_by}
 use Rattle.cil_attrs.specs.declared.giver.SetKind.{SetKind}
 use Rattle.cil_attrs.specs.declared.targets.Step.{Step}

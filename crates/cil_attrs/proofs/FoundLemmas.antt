@@ -26,17 +26,18 @@ use Rattle.cil_macros.specs.Item.{Item, is_enabled, words_in}
 use Rattle.cil_macros.specs.Items.{Kept, items_in}
 use Rattle.cil_names.specs.Declarations.{Declared, Symbol, name_of}
 use Rattle.cil_names.specs.Entries.{is_declared_in}
-use Rattle.cil_names.specs.Family.{IsRanked, Solves, gives, holds, in_value, is_given, is_giving, no_range}
-use Rattle.cil_names.specs.Known.{enabled_in}
+use Rattle.cil_known.specs.Family.{IsRanked, Solves, gives, holds, in_value, is_given, is_giving, no_range}
+use Rattle.cil_known.specs.Known.{enabled_in}
 use Rattle.cil_names.specs.Laws.{MeansWhatItNames}
-use Rattle.cil_names.specs.Numbers.{AreApart, has_section, symbol_of}
+use Rattle.cil_known.specs.Numbers.{AreApart, has_section}
+use Rattle.cil_names.specs.Symbols.{symbol_of}
 use Rattle.cil_names.specs.Resolves.{found_in}
-use Rattle.cil_names.specs.Spaces.{SpaceOf, any_sets, is_declared, is_same_symbol, names, names_set, symbol_in}
+use Rattle.cil_known.specs.Spaces.{SpaceOf, any_sets, is_declared, is_same_symbol, names, names_set, symbol_in}
 use Rattle.cil_names.specs.declared.entry.Entry.{Entry}
-use Rattle.cil_names.specs.declared.known.Known.{Known}
+use Rattle.cil_known.specs.declared.known.Known.{Known}
 use Rattle.cil_names.proofs.CandidateLemmas.{place_none, place_some}
 use Rattle.cil_names.proofs.DeclareDecided.{symbol_by}
-use Rattle.cil_names.proofs.MemberLemmas.{declared_is}
+use Rattle.cil_known.proofs.MemberLemmas.{declared_is}
 use Rattle.cil_attrs.specs.declared.evaluator.Held.{Held}
 use Rattle.cil_attrs.specs.declared.evaluator.Held.TheVariants as are_held
 use Rattle.cil_attrs.specs.declared.giver.SpaceKinds.{SpaceKinds}

@@ -21,15 +21,15 @@ use Rattle.cil_macros.specs.Items.{Kept, item_at, items_in, may_say_lists, says_
 use Rattle.cil_macros.specs.Item.{Item, all_replaced, is_enabled, replaced}
 use Rattle.cil_macros.proofs.FormLemmas.{across, all_across, no_word}
 use Rattle.cil_names.specs.declared.entry.Entry.{Entry}
-use Rattle.cil_names.specs.declared.known.Known.{Known}
+use Rattle.cil_known.specs.declared.known.Known.{Known}
 use Rattle.cil_names.specs.Declarations.{Symbol}
 use Rattle.cil_names.specs.Entries.{IsAnswer, IsNamed, is_declared_in}
-use Rattle.cil_names.specs.Family.{Family, gives, in_value, is_giving, no_range}
-use Rattle.cil_names.specs.Known.{IsKnown, enabled_in, meant_by, meant_in, value_in, wanted_with}
+use Rattle.cil_known.specs.Family.{Family, gives, in_value, is_giving, no_range}
+use Rattle.cil_known.specs.Known.{IsKnown, enabled_in, meant_by, meant_in, value_in, wanted_with}
 use Rattle.cil_names.specs.Laws.{MeansWhatItNames}
-use Rattle.cil_names.specs.Numbers.{symbol_of}
+use Rattle.cil_names.specs.Symbols.{symbol_of}
 use Rattle.cil_names.specs.Resolves.{Word as AWord, all_wanted_in, found_in, is_mapping, wanted_in}
-use Rattle.cil_names.specs.Spaces.{Sets, SpaceOf, any_sets, is_declared, is_same_symbol, names, names_set, symbol_in}
+use Rattle.cil_known.specs.Spaces.{Sets, SpaceOf, any_sets, is_declared, is_same_symbol, names, names_set, symbol_in}
 use Rattle.cil_attrs.specs.declared.giver.SetKind.{SetKind}
 use Rattle.cil_attrs.specs.declared.giver.SpaceKinds.{SpaceKinds}
 use Rattle.cil_attrs.specs.Givers.{AreGifts, AreSets, AreWritten, GivesNothing, IsGift, IsNamedSet, IsSets, HasKinds, NamesNoSet, SaysItsTerms, is_giving_as, is_written}

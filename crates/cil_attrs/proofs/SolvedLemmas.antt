@@ -17,16 +17,16 @@ use Rattle.cil_syntax.proofs.KindLemmas.{one_kind, same_kind}
 use Rattle.cil_macros.specs.Item.{Item, replaced}
 use Rattle.cil_macros.specs.Items.{Kept, items_in, word_at}
 use Rattle.cil_names.specs.declared.entry.Entry.{Entry}
-use Rattle.cil_names.specs.declared.known.Known.{Known}
+use Rattle.cil_known.specs.declared.known.Known.{Known}
 use Rattle.cil_names.specs.Declarations.{Symbol}
 use Rattle.cil_names.specs.Entries.{is_declared_in}
-use Rattle.cil_names.specs.Family.{Family, gives, in_value, is_given, is_giving, no_range}
-use Rattle.cil_names.specs.Known.{enabled_in}
+use Rattle.cil_known.specs.Family.{Family, gives, in_value, is_given, is_giving, no_range}
+use Rattle.cil_known.specs.Known.{enabled_in}
 use Rattle.cil_names.specs.Laws.{MeansWhatItNames}
-use Rattle.cil_names.specs.Numbers.{symbol_of}
-use Rattle.cil_names.specs.Spaces.{Sets, SpaceOf, any_sets, is_declared, is_same_symbol, is_set}
+use Rattle.cil_names.specs.Symbols.{symbol_of}
+use Rattle.cil_known.specs.Spaces.{Sets, SpaceOf, any_sets, is_declared, is_same_symbol, is_set}
 use Rattle.cil_names.proofs.DeclareDecided.{symbol_by}
-use Rattle.cil_names.proofs.MemberLemmas.{declared_is}
+use Rattle.cil_known.proofs.MemberLemmas.{declared_is}
 use Rattle.cil_attrs.specs.declared.evaluator.Held.{Held}
 use Rattle.cil_attrs.specs.declared.giver.SpaceKinds.{SpaceKinds}
 use Rattle.cil_attrs.specs.declared.making.Given.{Given}

@@ -13,8 +13,9 @@ use Rattle.cil_syntax.specs.NameSpaces.{name_space}
 use Rattle.cil_syntax.proofs.KindLemmas.{one_kind, same_kind}
 use Rattle.cil_names.specs.Declarations.{Symbol}
 use Rattle.cil_names.specs.Entries.{AreOrdered}
-use Rattle.cil_names.specs.Numbers.{has_section, symbol_of}
-use Rattle.cil_names.specs.Spaces.{SpaceOf, any_sets}
+use Rattle.cil_known.specs.Numbers.{has_section}
+use Rattle.cil_names.specs.Symbols.{symbol_of}
+use Rattle.cil_known.specs.Spaces.{SpaceOf, any_sets}
 use Rattle.cil_names.specs.declared.entry.Entry.{Entry}
 use Rattle.cil_names.proofs.AnswerLemmas.{one_entry}
 use Rattle.cil_names.proofs.CandidateLemmas.{they_are}

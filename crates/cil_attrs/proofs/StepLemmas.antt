@@ -18,13 +18,13 @@ use Rattle.cil_macros.proofs.FormLemmas.{leaf_across}
 use Rattle.cil_macros.proofs.ItemLemmas.{item_there}
 use Rattle.cil_names.specs.Declarations.{Symbol}
 use Rattle.cil_names.specs.Entries.{IsAnswer, IsNamed}
-use Rattle.cil_names.specs.Known.{IsKnown, enabled_in, meant_by, meant_in}
+use Rattle.cil_known.specs.Known.{IsKnown, enabled_in, meant_by, meant_in}
 use Rattle.cil_names.specs.Laws.{MeansWhatItNames}
-use Rattle.cil_names.specs.Numbers.{symbol_of}
+use Rattle.cil_names.specs.Symbols.{symbol_of}
 use Rattle.cil_names.specs.Resolves.{wanted_in}
-use Rattle.cil_names.specs.Spaces.{Sets, SpaceOf, is_same_symbol, names}
+use Rattle.cil_known.specs.Spaces.{Sets, SpaceOf, is_same_symbol, names}
 use Rattle.cil_names.specs.declared.entry.Entry.{Entry}
-use Rattle.cil_names.specs.declared.known.Known.{Known}
+use Rattle.cil_known.specs.declared.known.Known.{Known}
 use Rattle.cil_attrs.specs.declared.making.Given.{Given}
 use Rattle.cil_attrs.specs.declared.targets.Step.{Step}
 use Rattle.cil_attrs.specs.Givers.{AreGifts, IsGift}

@@ -8,13 +8,13 @@ use Rattle.cil_syntax.specs.Scopes.{ScopedWord}
 use Rattle.cil_syntax.specs.Terms.{Term}
 use Rattle.cil_macros.specs.Item.{Item, words_in}
 use Rattle.cil_names.specs.declared.entry.Entry.{Entry}
-use Rattle.cil_names.specs.declared.known.Known.{Known}
+use Rattle.cil_known.specs.declared.known.Known.{Known}
 use Rattle.cil_names.specs.Declarations.{Declared, Symbol}
 use Rattle.cil_names.specs.Entries.{is_declared_in}
-use Rattle.cil_names.specs.Family.{Family}
-use Rattle.cil_names.specs.Known.{IsNumbered, enabled_in, meant_in}
-use Rattle.cil_names.specs.Numbers.{symbol_of}
-use Rattle.cil_names.specs.Spaces.{SpaceOf, any_sets, is_same_symbol}
+use Rattle.cil_known.specs.Family.{Family}
+use Rattle.cil_known.specs.Known.{IsNumbered, enabled_in, meant_in}
+use Rattle.cil_names.specs.Symbols.{symbol_of}
+use Rattle.cil_known.specs.Spaces.{SpaceOf, any_sets, is_same_symbol}
 use Rattle.cil_attrs.specs.declared.evaluator.Held.{Held}
 use Rattle.cil_attrs.specs.Evaluated.{is_held}
 

@@ -7,7 +7,7 @@ use Rattle.cil_syntax.specs.Kinds.{is_wanted}
 use Rattle.cil_syntax.specs.NameSpaces.{name_space}
 use Rattle.cil_syntax.specs.Shapes.{close, item, looked_up}
 use Rattle.cil_syntax.specs.Table.{entry_of}
-use Rattle.cil_names.specs.Numbers.{has_section}
+use Rattle.cil_known.specs.Numbers.{has_section}
 use Rattle.cil_attrs.specs.declared.giver.SetKind.{SetKind}
 use Rattle.cil_attrs.specs.declared.giver.SpaceKinds.{SpaceKinds}
 use Rattle.cil_attrs.specs.Givers.{AreWritten}

@@ -9,10 +9,10 @@ use Rattle.cil_macros.specs.Item.{Item}
 use Rattle.cil_macros.specs.Items.{Kept, items_in, word_at}
 use Rattle.cil_names.specs.Declarations.{Symbol}
 use Rattle.cil_names.specs.declared.entry.Entry.{Entry}
-use Rattle.cil_names.specs.declared.known.Known.{Known}
-use Rattle.cil_names.specs.Family.{Family, IsRanked, Solves, no_range}
-use Rattle.cil_names.specs.Known.{IsKnown, enabled_in, meant_in}
-use Rattle.cil_names.specs.Spaces.{SpaceOf}
+use Rattle.cil_known.specs.declared.known.Known.{Known}
+use Rattle.cil_known.specs.Family.{Family, IsRanked, Solves, no_range}
+use Rattle.cil_known.specs.Known.{IsKnown, enabled_in, meant_in}
+use Rattle.cil_known.specs.Spaces.{SpaceOf}
 use Rattle.cil_attrs.specs.declared.evaluator.Held.{Held}
 use Rattle.cil_attrs.specs.declared.giver.SpaceKinds.{SpaceKinds}
 use Rattle.cil_attrs.specs.declared.making.Given.{Given}

@@ -15,8 +15,8 @@ use Rattle.cil_syntax.specs.Table.{entry_of}
 use Rattle.cil_syntax.specs.Terms.{Leaf, Name, Terms, cons}
 use Rattle.cil_macros.specs.Item.{Item, OptSet, is_enabled}
 use Rattle.cil_names.specs.Declarations.{Declared, Symbol, name_of, nowhere}
-use Rattle.cil_names.specs.Family.{DependsOn, no_range}
-use Rattle.cil_names.specs.Spaces.{Sets, SpaceOf, names}
+use Rattle.cil_known.specs.Family.{DependsOn, no_range}
+use Rattle.cil_known.specs.Spaces.{Sets, SpaceOf, names}
 
 -- ---- declarations
 

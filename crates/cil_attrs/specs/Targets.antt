@@ -16,12 +16,12 @@ use Rattle.cil_blocks.specs.declared.namespaces.Space as blocks
 use Rattle.cil_macros.specs.Item.{Item, OptSet}
 use Rattle.cil_macros.specs.Items.{Kept, item_at, items_in, may_say_lists, says_as_written}
 use Rattle.cil_names.specs.Declarations.{Symbol}
-use Rattle.cil_names.specs.Known.{enabled_in}
-use Rattle.cil_names.specs.Numbers.{symbol_of}
-use Rattle.cil_names.specs.Family.{DependsOn, no_range}
-use Rattle.cil_names.specs.Spaces.{Sets, SpaceOf, any_sets}
+use Rattle.cil_known.specs.Known.{enabled_in}
+use Rattle.cil_names.specs.Symbols.{symbol_of}
+use Rattle.cil_known.specs.Family.{DependsOn, no_range}
+use Rattle.cil_known.specs.Spaces.{Sets, SpaceOf, any_sets}
 use Rattle.cil_names.specs.declared.entry.Entry.{Entry}
-use Rattle.cil_names.specs.declared.known.Known.{Known}
+use Rattle.cil_known.specs.declared.known.Known.{Known}
 use Rattle.cil_attrs.specs.declared.making.Given.{Given}
 use Rattle.cil_attrs.specs.declared.targets.Step.{Step}
 use Rattle.cil_attrs.specs.Holding.{is_kind}

@@ -6,11 +6,11 @@ ghost use Rattle.cil_syntax.specs.Said.{all_said, said_of};
 ghost use Rattle.cil_syntax.specs.declared.kind.Kind as kinds;
 ghost use Rattle.cil_syntax.specs.Scopes.{ScopedWord};
 ghost use Rattle.cil_macros.specs.Item.{Item};
-ghost use Rattle.cil_names.specs.declared.known.Known.{Known as Lookups};
+ghost use Rattle.cil_known.specs.declared.known.Known.{Known as Lookups};
 ghost use Rattle.cil_names.specs.Declarations.{Symbol};
-ghost use Rattle.cil_names.specs.Family.{Family, in_value, no_range};
-ghost use Rattle.cil_names.specs.Known.{IsKnown, enabled_in, meant_in};
-ghost use Rattle.cil_names.specs.Spaces.{SpaceOf};
+ghost use Rattle.cil_known.specs.Family.{Family, in_value, no_range};
+ghost use Rattle.cil_known.specs.Known.{IsKnown, enabled_in, meant_in};
+ghost use Rattle.cil_known.specs.Spaces.{SpaceOf};
 ghost use Rattle.cil_names.specs.Unresolved.{term_with};
 ghost use Rattle.cil_base.specs.Among.{among};
 ghost use Rattle.cil_attrs.specs.Holding.{AreAll, HoldAs, IsItem};
@@ -18,7 +18,8 @@ ghost use Rattle.cil_attrs.specs.Evaluated.{as_way, BeginWith, BeginWithAll, end
 
 use crate::way::{Way, joining_of, way_of};
 use cil_base::NoMemory;
-use cil_names::{Meaning, behind_first, laws, meaning_at};
+use cil_known::{behind_first, meaning_at};
+use cil_names::{Meaning, laws};
 use cil_sets::{Joining, Numbers};
 use cil_syntax::Term;
 use std::alloc::Global;

@@ -1,7 +1,7 @@
 //! The members of aliases and attributes: of types, roles, users, sensitivities or categories, as sets of numbers.
 //!
 //! Start at `checked.rt`: `members` makes each set of a name space once, from all statements that give it something, or answers
-//! exactly what is wrong; `Members::has` (`held.rt`) asks a set. `specs/Family.antt` of cil_names says which members an alias or an
+//! exactly what is wrong; `Members::has` (`held.rt`) asks a set. `specs/Family.antt` of cil_known says which members an alias or an
 //! attribute has, `specs/Members.antt` what is answered, and `specs/SetFaults.antt` what is wrong. The parts: `space.rt` has the five
 //! name spaces, `faults.rt` their faults, `targets.rt` what statements say of aliases, `declared.rt` faults at declared names,
 //! `evaluator.rt` the value of a set expression, `giver.rt` what one statement gives a set, `plain.rt` which expressions have a value,

@@ -2,7 +2,7 @@
 
 ghost use Rattle.std.specs.Prelude.{◌≡◌, refl, true};
 ghost use Rattle.cil_syntax.specs.declared.kind.Sign.{Sign as ASign};
-ghost use Rattle.cil_names.specs.Numbers.{has_section};
+ghost use Rattle.cil_known.specs.Numbers.{has_section};
 ghost use Rattle.cil_attrs.specs.declared.giver.SpaceKinds.{SpaceKinds as TheKinds};
 ghost use Rattle.cil_attrs.specs.Givers.{AreWritten};
 ghost use Rattle.cil_attrs.specs.Laws.{AliasesStay, IsSignOf, IsWhole};

@@ -19,8 +19,8 @@ use Rattle.cil_macros.specs.Items.{Kept, SaysItsWords, item_at, placed_at, says_
 use Rattle.cil_macros.specs.ListTerms.{AreAlike, IsAlike, all_spotless, nowhere, spotless}
 use Rattle.cil_macros.proofs.ItemsThere.{keyword_there}
 use Rattle.cil_names.specs.Declarations.{Symbol}
-use Rattle.cil_names.specs.declared.known.Known.{Known}
-use Rattle.cil_names.specs.Known.{row_in, value_in}
+use Rattle.cil_known.specs.declared.known.Known.{Known}
+use Rattle.cil_known.specs.Known.{row_in, value_in}
 use Rattle.cil_names.specs.Resolves.{Permission as APermission, Word as AWord, all_wanted_in, has_permission, is_mapping, wanted_in, words_of_class, words_of_mapping, words_said}
 use Rattle.cil_classes.specs.declared.assigned.Part.{Part}
 use Rattle.cil_classes.specs.Given.{HasPair, Holder, mapped, named, of_class, of_map, of_name}

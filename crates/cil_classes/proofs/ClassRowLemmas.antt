@@ -11,11 +11,12 @@ use Rattle.cil_base.specs.declared.bytes.Bytes.{Bytes}
 use Rattle.cil_syntax.specs.declared.kind.Kind.{Kind}
 use Rattle.cil_syntax.specs.declared.kind.Kind.TheVariants as kinds
 use Rattle.cil_names.specs.declared.entry.Entry.{Entry}
-use Rattle.cil_names.specs.declared.numbers.Sections.{Sections}
+use Rattle.cil_known.specs.declared.numbers.Sections.{Sections}
 use Rattle.cil_blocks.specs.declared.namespaces.Space.{Space}
 use Rattle.cil_names.specs.Entries.{is_declared_in}
 use Rattle.cil_macros.specs.Item.{OptSet}
-use Rattle.cil_names.specs.Numbers.{AreApart, AreNumbers, has_section, is_of, names_of, spelled_of}
+use Rattle.cil_known.specs.Numbers.{AreApart, AreNumbers, has_section, names_of, spelled_of}
+use Rattle.cil_names.specs.Symbols.{is_of}
 use Rattle.cil_syntax.specs.Kinds.{kind_number}
 use Rattle.cil_names.specs.Unresolved.{listed_at}
 use Rattle.cil_classes.specs.ClassRows.{AreClassEntries, AreListed, AreRowsOf}

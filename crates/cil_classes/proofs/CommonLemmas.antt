@@ -25,7 +25,7 @@ use Rattle.cil_macros.specs.Item.{Item, OptSet, all_replaced}
 use Rattle.cil_macros.proofs.FormLemmas.{pair_across}
 use Rattle.cil_names.specs.Declarations.{Symbol}
 use Rattle.cil_names.specs.Entries.{AreOrdered}
-use Rattle.cil_names.specs.Numbers.{symbol_of}
+use Rattle.cil_names.specs.Symbols.{symbol_of}
 use Rattle.cil_names.specs.Resolves.{is_class_common, names_outside}
 use Rattle.cil_names.specs.Shared.{AreShared, IsEntryOf, IsPairOf, IsSharing, Pair, Shares}
 use Rattle.cil_names.specs.SharedOrder.{same_pair, shared_cmp, shared_total}

@@ -15,16 +15,16 @@ use Rattle.cil_macros.specs.Item.{Item}
 use Rattle.cil_names.proofs.AnswerLemmas.{one_entry}
 use Rattle.cil_names.proofs.CandidateLemmas.{parts_of, they_are}
 use Rattle.cil_names.proofs.DeclareDecided.{symbol_by}
-use Rattle.cil_names.proofs.MemberLemmas.{found_of, named_of, stands_by}
+use Rattle.cil_known.proofs.MemberLemmas.{found_of, named_of, stands_by}
 use Rattle.cil_names.proofs.PermissionWordLemmas.{meant_always}
 use Rattle.cil_names.specs.declared.entry.Entry.{Entry}
-use Rattle.cil_names.specs.declared.known.Known.{Known}
+use Rattle.cil_known.specs.declared.known.Known.{Known}
 use Rattle.cil_names.specs.Declarations.{Symbol}
 use Rattle.cil_names.specs.Entries.{AreOrdered, IsAnswer, IsNamed, is_declared_in}
-use Rattle.cil_names.specs.Known.{IsKnown, enabled_in, meant_in}
+use Rattle.cil_known.specs.Known.{IsKnown, enabled_in, meant_in}
 use Rattle.cil_names.specs.Laws.{MeansWhatItNames}
-use Rattle.cil_names.specs.Members.{HasNoSets, StandsFor}
-use Rattle.cil_names.specs.Numbers.{symbol_of}
+use Rattle.cil_known.specs.Members.{HasNoSets, StandsFor}
+use Rattle.cil_names.specs.Symbols.{symbol_of}
 use Rattle.cil_names.specs.PermissionWords.{listed_for, listed_of}
 use Rattle.cil_names.specs.Resolves.{has_permission}
 use Rattle.cil_names.specs.Unresolved.{listed_at}

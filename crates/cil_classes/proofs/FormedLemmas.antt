@@ -24,8 +24,8 @@ use Rattle.cil_syntax.specs.Terms.{Term, Leaf, Name, Form, Terms, nil, cons}
 use Rattle.cil_syntax.proofs.SaidLemmas.{form_said, leaf_said, name_said}
 use Rattle.cil_macros.specs.Item.{Item, all_replaced, replaced, words_in}
 use Rattle.cil_macros.proofs.FormLemmas.{across, all_across, class_across, form_across, leaf_across, name_across}
-use Rattle.cil_names.specs.declared.known.Known.{Known}
-use Rattle.cil_names.specs.Known.{BeginWith, IsKnown, meant_in, value_in}
+use Rattle.cil_known.specs.declared.known.Known.{Known}
+use Rattle.cil_known.specs.Known.{BeginWith, IsKnown, meant_in, value_in}
 use Rattle.cil_names.specs.PermissionWords.{listed_for}
 use Rattle.cil_names.specs.Resolves.{wanted_in}
 use Rattle.cil_names.specs.Unresolved.{listed_at, term_with}

@@ -25,18 +25,18 @@ use Rattle.cil_macros.specs.Item.{Item, OptSet, words_in}
 use Rattle.cil_macros.proofs.FormLemmas.{across, class_across, no_class, words_across}
 use Rattle.cil_names.specs.Declarations.{Symbol, name_of}
 use Rattle.cil_names.specs.Entries.{IsAnswer, IsNamed}
-use Rattle.cil_names.specs.Known.{BeginWith, IsKnown, IsNumberFor, StandsForNothing, enabled_in, meant_in, value_in}
+use Rattle.cil_known.specs.Known.{BeginWith, IsKnown, IsNumberFor, StandsForNothing, enabled_in, meant_in, value_in}
 use Rattle.cil_names.specs.Laws.{MeansWhatItNames}
-use Rattle.cil_names.specs.Members.{StandsFor}
-use Rattle.cil_names.specs.Numbers.{symbol_of}
+use Rattle.cil_known.specs.Members.{StandsFor}
+use Rattle.cil_names.specs.Symbols.{symbol_of}
 use Rattle.cil_names.specs.PermissionWords.{listed_for, listed_of, number_among}
 use Rattle.cil_names.specs.Resolves.{Permission as APermission, Word as AWord, has_permission, wanted_in}
 use Rattle.cil_names.specs.Unresolved.{listed_at, term_with}
 use Rattle.cil_names.specs.declared.entry.Entry.{Entry}
-use Rattle.cil_names.specs.declared.known.Known.{Known}
+use Rattle.cil_known.specs.declared.known.Known.{Known}
 use Rattle.cil_names.proofs.CandidateLemmas.{parts_of, they_are}
 use Rattle.cil_names.proofs.DeclareDecided.{symbol_by}
-use Rattle.cil_names.proofs.MemberLemmas.{found_of, named_of, wanted_of}
+use Rattle.cil_known.proofs.MemberLemmas.{found_of, named_of, wanted_of}
 use Rattle.cil_names.proofs.PermissionWordLemmas.{meant_always}
 use Rattle.cil_classes.specs.ClassRows.{AreClasses}
 use Rattle.cil_classes.specs.Masks.{GivesNothing, IsGiven, IsMaskOf}

@@ -22,9 +22,9 @@ use Rattle.cil_syntax.specs.Terms.{Term}
 use Rattle.cil_macros.specs.Item.{Item, OptSet, is_enabled}
 use Rattle.cil_names.specs.Declarations.{Symbol}
 use Rattle.cil_names.specs.declared.entry.Entry.{Entry}
-use Rattle.cil_names.specs.declared.known.Known.{Known}
-use Rattle.cil_names.specs.Known.{IsKnown, enabled_in}
-use Rattle.cil_names.specs.Numbers.{symbol_of}
+use Rattle.cil_known.specs.declared.known.Known.{Known}
+use Rattle.cil_known.specs.Known.{IsKnown, enabled_in}
+use Rattle.cil_names.specs.Symbols.{symbol_of}
 use Rattle.cil_names.specs.Unresolved.{listed_at, term_with}
 use Rattle.cil_names.specs.Resolves.{has_permission}
 use Rattle.cil_classes.specs.declared.assigned.Given.{Given}

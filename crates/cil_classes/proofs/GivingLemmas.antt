@@ -21,10 +21,10 @@ use Rattle.cil_macros.specs.Item.{Item, OptSet, is_enabled, words_in}
 use Rattle.cil_macros.specs.ListTerms.{AreAlike, IsAlike, spotless}
 use Rattle.cil_macros.proofs.FormLemmas.{across, all_across, leaf_across, no_rule, no_word, rule_across}
 use Rattle.cil_names.specs.Declarations.{Symbol}
-use Rattle.cil_names.specs.declared.known.Known.{Known}
-use Rattle.cil_names.specs.Known.{IsKnown, StandsForNothing, enabled_in, meant_in, row_in, value_in}
-use Rattle.cil_names.specs.Members.{StandsFor}
-use Rattle.cil_names.specs.Numbers.{symbol_of}
+use Rattle.cil_known.specs.declared.known.Known.{Known}
+use Rattle.cil_known.specs.Known.{IsKnown, StandsForNothing, enabled_in, meant_in, row_in, value_in}
+use Rattle.cil_known.specs.Members.{StandsFor}
+use Rattle.cil_names.specs.Symbols.{symbol_of}
 use Rattle.cil_names.specs.PermissionWords.{listed_for, number_among}
 use Rattle.cil_names.specs.Resolves.{Permission as APermission, Word as AWord, all_wanted_in, has_permission, wanted_in, is_mapping, words_of_mapping}
 use Rattle.cil_names.specs.Unresolved.{listed_at}

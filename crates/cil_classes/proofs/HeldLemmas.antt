@@ -17,8 +17,8 @@ use Rattle.cil_base.specs.Places.{in_range}
 use Rattle.cil_base.specs.Records.{AreRecordsOf}
 use Rattle.cil_syntax.specs.declared.kind.Kind.{Kind}
 use Rattle.cil_macros.specs.Item.{Item}
-use Rattle.cil_names.specs.declared.known.Known.{Known}
-use Rattle.cil_names.specs.Known.{IsKnown, enabled_in}
+use Rattle.cil_known.specs.declared.known.Known.{Known}
+use Rattle.cil_known.specs.Known.{IsKnown, enabled_in}
 use Rattle.cil_classes.specs.declared.assigned.Given.{Given}
 use Rattle.cil_classes.specs.declared.held.ClassMasks.{ClassMasks}
 use Rattle.cil_classes.specs.declared.held.GivenPermissions.{GivenPermissions}

@@ -19,10 +19,10 @@ use Rattle.cil_syntax.specs.Terms.{Term, Leaf, Name, Form, nil, cons}
 use Rattle.cil_macros.specs.Item.{Item, OptSet}
 use Rattle.cil_names.specs.Declarations.{Symbol}
 use Rattle.cil_names.specs.declared.entry.Entry.{Entry}
-use Rattle.cil_names.specs.declared.known.Known.{Known}
-use Rattle.cil_names.specs.Known.{IsKnown, StandsForNothing, enabled_in}
-use Rattle.cil_names.specs.Members.{StandsFor}
-use Rattle.cil_names.specs.Numbers.{symbol_of}
+use Rattle.cil_known.specs.declared.known.Known.{Known}
+use Rattle.cil_known.specs.Known.{IsKnown, StandsForNothing, enabled_in}
+use Rattle.cil_known.specs.Members.{StandsFor}
+use Rattle.cil_names.specs.Symbols.{symbol_of}
 use Rattle.cil_names.specs.Resolves.{has_permission}
 use Rattle.cil_names.specs.Unresolved.{listed_at}
 use Rattle.cil_classes.specs.declared.nodes.Node.{Node}

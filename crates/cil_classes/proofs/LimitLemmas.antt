@@ -14,7 +14,8 @@ use Rattle.cil_macros.specs.Item.{Item, OptSet}
 use Rattle.cil_names.specs.declared.entry.Entry.{Entry}
 use Rattle.cil_names.specs.Declarations.{name_of, nowhere}
 use Rattle.cil_names.specs.Entries.{AreEntries}
-use Rattle.cil_names.specs.Numbers.{IsNameAmong, symbol_of}
+use Rattle.cil_known.specs.Numbers.{IsNameAmong}
+use Rattle.cil_names.specs.Symbols.{symbol_of}
 use Rattle.cil_classes.specs.Faults.{HasManyClasses, IsClassName, most_classes}
 
 -- the names of the entries that are classes are those of the classes

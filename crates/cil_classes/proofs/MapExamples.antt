@@ -13,10 +13,10 @@ use Rattle.cil_syntax.specs.Table.{entry_of}
 use Rattle.cil_syntax.specs.Terms.{Term, Leaf, Name, Form, Terms, nil, cons}
 use Rattle.cil_macros.specs.Item.{Item, all_words_in, names_in, nobody, words_in}
 use Rattle.cil_names.specs.Declarations.{Symbol, by, content_of, nowhere}
-use Rattle.cil_names.specs.Members.{StandsFor}
+use Rattle.cil_known.specs.Members.{StandsFor}
 use Rattle.cil_names.specs.Resolves.{Permission, Word, all_wanted_in, found_in, has, has_permission, lists_permission, resolves, wanted_in, words_of}
-use Rattle.cil_names.specs.Says.{Says}
-use Rattle.cil_names.proofs.MemberLemmas.{stands_by}
+use Rattle.cil_known.specs.Says.{Says}
+use Rattle.cil_known.proofs.MemberLemmas.{stands_by}
 use Rattle.cil_classes.specs.Given.{HasPair, by_mapping, by_set, of_class, of_map, of_name}
 
 -- ---- statements

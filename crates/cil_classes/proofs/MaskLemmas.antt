@@ -30,7 +30,7 @@ use Rattle.cil_syntax.proofs.SaidLemmas.{form_said, name_said}
 use Rattle.cil_macros.specs.Item.{all_replaced, replaced, words_in}
 use Rattle.cil_names.specs.PermissionWords.{number_among}
 use Rattle.cil_names.specs.Unresolved.{term_with, terms_with}
-use Rattle.cil_names.proofs.LeafLemmas.{all_leaves, leaves_form, leaves_leaf, leaves_none, leaves_of}
+use Rattle.cil_known.proofs.LeafLemmas.{all_leaves, leaves_form, leaves_leaf, leaves_none, leaves_of}
 use Rattle.cil_classes.specs.Masks.{AreLeaves, IsBitIn, IsLeaf, IsMaskOf, IsPlain}
 use Rattle.cil_classes.specs.Numbers.{AreNumbered, IsHeld, numbers_of}
 use Rattle.cil_classes.specs.Row.{most_permissions}

@@ -16,7 +16,7 @@ use Rattle.cil_names.proofs.AnswerLemmas.{one_entry}
 use Rattle.cil_names.proofs.CandidateLemmas.{they_are}
 use Rattle.cil_names.specs.Declarations.{Declaration, Symbol, by, declared_by, object_role}
 use Rattle.cil_names.specs.Entries.{AreEntries, AreRounds, is_declared_in}
-use Rattle.cil_names.specs.Numbers.{symbol_of}
+use Rattle.cil_names.specs.Symbols.{symbol_of}
 use Rattle.cil_names.specs.Resolves.{fits, found_in, gives_permission, has, has_permission, is_class_common, listed_permissions, lists_named, lists_permission, names_outside, shares_permission, shares_words}
 use Rattle.cil_names.specs.declared.entry.Entry.{Entry}
 use Rattle.cil_syntax.proofs.DecidedEquality.{spaces_decide}

@@ -18,14 +18,15 @@ use Rattle.cil_macros.specs.Item.{Item, OptSet}
 use Rattle.cil_names.proofs.AnswerLemmas.{one_entry}
 use Rattle.cil_names.proofs.CandidateLemmas.{they_are}
 use Rattle.cil_names.proofs.DeclareDecided.{symbol_by}
-use Rattle.cil_names.proofs.MemberLemmas.{found_of, named_of, wanted_of}
+use Rattle.cil_known.proofs.MemberLemmas.{found_of, named_of, wanted_of}
 use Rattle.cil_names.specs.declared.entry.Entry.{Entry}
-use Rattle.cil_names.specs.declared.known.Known.{Known}
+use Rattle.cil_known.specs.declared.known.Known.{Known}
 use Rattle.cil_names.specs.Declarations.{Declared, Symbol, name_of}
 use Rattle.cil_names.specs.Entries.{IsEntryFor}
-use Rattle.cil_names.specs.Known.{IsKnown, enabled_in}
-use Rattle.cil_names.specs.Members.{HasNoSets, StandsFor}
-use Rattle.cil_names.specs.Numbers.{AreApart, has_section, spelled_of, symbol_of}
+use Rattle.cil_known.specs.Known.{IsKnown, enabled_in}
+use Rattle.cil_known.specs.Members.{HasNoSets, StandsFor}
+use Rattle.cil_known.specs.Numbers.{AreApart, has_section, spelled_of}
+use Rattle.cil_names.specs.Symbols.{symbol_of}
 use Rattle.cil_names.specs.Resolves.{has_permission}
 use Rattle.cil_classes.specs.ClassRows.{AreClasses}
 use Rattle.cil_classes.specs.Given.{Holder}

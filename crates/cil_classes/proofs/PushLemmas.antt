@@ -18,9 +18,9 @@ use Rattle.cil_syntax.specs.Scopes.{ScopedWord}
 use Rattle.cil_syntax.specs.Terms.{Term}
 use Rattle.cil_macros.specs.Item.{Item, OptSet}
 use Rattle.cil_names.specs.Declarations.{Symbol}
-use Rattle.cil_names.specs.declared.known.Known.{Known}
-use Rattle.cil_names.specs.Known.{IsKnown, enabled_in}
-use Rattle.cil_names.specs.Numbers.{AreApart}
+use Rattle.cil_known.specs.declared.known.Known.{Known}
+use Rattle.cil_known.specs.Known.{IsKnown, enabled_in}
+use Rattle.cil_known.specs.Numbers.{AreApart}
 use Rattle.cil_classes.specs.declared.assigned.Part.{Part}
 use Rattle.cil_classes.specs.declared.held.ClassMasks.{ClassMasks}
 use Rattle.cil_classes.specs.declared.held.GivenPermissions.{GivenPermissions}

@@ -31,7 +31,7 @@ use Rattle.cil_macros.specs.Item.{all_replaced, replaced, words_in}
 use Rattle.cil_names.specs.Entries.{place_where}
 use Rattle.cil_names.specs.PermissionWords.{number_among}
 use Rattle.cil_names.specs.Unresolved.{term_with, terms_with}
-use Rattle.cil_names.proofs.LeafLemmas.{all_leaves, leaves_form, leaves_leaf, leaves_more, leaves_none, leaves_of}
+use Rattle.cil_known.proofs.LeafLemmas.{all_leaves, leaves_form, leaves_leaf, leaves_more, leaves_none, leaves_of}
 use Rattle.cil_classes.specs.Numbers.{AreNumbered, IsTallied, combined_of, is_number, numbers_of}
 use Rattle.cil_classes.specs.Values.{in_each_there, in_odd_there, in_some_there, in_value, in_value_there}
 

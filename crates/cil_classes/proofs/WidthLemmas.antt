@@ -36,7 +36,7 @@ use Rattle.cil_names.specs.Declarations.{Declaration, Symbol, by, content_of, de
 use Rattle.cil_names.specs.Entries.{AreEntries, HasNoEntryIn, IsEntryIn, is_entry_of}
 use Rattle.cil_macros.specs.Item.{Item, OptSet, all_replaced, is_enabled}
 use Rattle.cil_macros.specs.Items.{Kept, item_at, may_say_lists, placed_at, says_as_written, word_at}
-use Rattle.cil_names.specs.Numbers.{symbol_of}
+use Rattle.cil_names.specs.Symbols.{symbol_of}
 use Rattle.cil_names.specs.Resolves.{has_permission}
 use Rattle.cil_syntax.specs.Kinds.{is_wanted}
 use Rattle.cil_blocks.specs.Namespaces.{space_at}

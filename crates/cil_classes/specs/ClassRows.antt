@@ -6,7 +6,8 @@ use Rattle.cil_syntax.specs.declared.kind.Kind.TheVariants as kinds
 use Rattle.cil_names.specs.declared.entry.Entry.{Entry}
 use Rattle.cil_blocks.specs.declared.namespaces.Space.{Space}
 use Rattle.cil_macros.specs.Item.{OptSet, Item}
-use Rattle.cil_names.specs.Numbers.{is_of, spelled_of}
+use Rattle.cil_known.specs.Numbers.{spelled_of}
+use Rattle.cil_names.specs.Symbols.{is_of}
 use Rattle.cil_names.specs.Unresolved.{listed_at}
 use Rattle.cil_classes.specs.declared.row.Class.{Class}
 use Rattle.cil_base.specs.Lists.{Lists, text_cmp}

@@ -11,9 +11,9 @@ use Rattle.cil_syntax.specs.Terms.{Term, Leaf, Terms, nil, cons}
 use Rattle.cil_macros.specs.Item.{Item, OptSet, is_enabled}
 use Rattle.cil_macros.specs.Items.{Kept, item_at, word_at}
 use Rattle.cil_macros.specs.ListTerms.{IsAlike}
-use Rattle.cil_names.specs.declared.known.Known.{Known}
-use Rattle.cil_names.specs.Known.{BeginWith, IsKnown, enabled_in, row_in}
-use Rattle.cil_names.specs.Members.{StandsFor}
+use Rattle.cil_known.specs.declared.known.Known.{Known}
+use Rattle.cil_known.specs.Known.{BeginWith, IsKnown, enabled_in, row_in}
+use Rattle.cil_known.specs.Members.{StandsFor}
 use Rattle.cil_names.specs.Unresolved.{term_with}
 use Rattle.cil_classes.specs.declared.assigned.Given.{Given}
 use Rattle.cil_classes.specs.declared.givens.Giving.{Giving}

@@ -5,8 +5,8 @@ use Rattle.std.specs.List.Sorted.{IsStrictlySortedBy}
 use Rattle.cil_settle.specs.Spread.{mask_at}
 use Rattle.cil_macros.specs.Item.{Item}
 use Rattle.cil_names.specs.Declarations.{Symbol}
-use Rattle.cil_names.specs.declared.known.Known.{Known}
-use Rattle.cil_names.specs.Known.{enabled_in}
+use Rattle.cil_known.specs.declared.known.Known.{Known}
+use Rattle.cil_known.specs.Known.{enabled_in}
 use Rattle.cil_classes.specs.declared.assigned.Given.{Given}
 use Rattle.cil_classes.specs.declared.held.GivenPermissions.{GivenPermissions}
 use Rattle.cil_classes.specs.declared.held.ClassMasks.{ClassMasks}

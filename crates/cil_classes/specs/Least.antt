@@ -8,7 +8,7 @@ use Rattle.cil_syntax.specs.Scopes.{ScopedWord}
 use Rattle.cil_syntax.specs.Terms.{Term, Leaf, Form, nil, cons}
 use Rattle.cil_macros.specs.Item.{Item, OptSet}
 use Rattle.cil_names.specs.Declarations.{Symbol}
-use Rattle.cil_names.specs.Members.{StandsFor}
+use Rattle.cil_known.specs.Members.{StandsFor}
 use Rattle.cil_names.specs.Resolves.{has_permission}
 use Rattle.cil_classes.specs.Values.{in_value}
 use Rattle.cil_classes.specs.Given.{HasPair, Holder, IsGiven, mapped, named}

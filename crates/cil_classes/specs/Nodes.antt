@@ -8,8 +8,8 @@ use Rattle.cil_blocks.specs.declared.namespaces.Space.{Space}
 use Rattle.cil_macros.specs.Item.{Item, OptSet}
 use Rattle.cil_names.specs.Declarations.{Declared, Symbol, name_of}
 use Rattle.cil_names.specs.declared.entry.Entry.{Entry}
-use Rattle.cil_names.specs.declared.known.Known.{Known}
-use Rattle.cil_names.specs.Numbers.{symbol_of}
+use Rattle.cil_known.specs.declared.known.Known.{Known}
+use Rattle.cil_names.specs.Symbols.{symbol_of}
 use Rattle.cil_names.specs.Unresolved.{listed_at}
 use Rattle.cil_classes.specs.declared.nodes.Node.{Node}
 use Rattle.cil_classes.specs.declared.nodes.Run.{Run}

@@ -9,10 +9,10 @@ use Rattle.cil_syntax.specs.Terms.{Term}
 use Rattle.cil_macros.specs.Item.{Item}
 use Rattle.cil_names.specs.Declarations.{Symbol}
 use Rattle.cil_names.specs.declared.entry.Entry.{Entry}
-use Rattle.cil_names.specs.declared.known.Known.{Known}
-use Rattle.cil_names.specs.Known.{enabled_in, meant_in}
-use Rattle.cil_names.specs.Members.{StandsFor}
-use Rattle.cil_names.specs.Numbers.{symbol_of}
+use Rattle.cil_known.specs.declared.known.Known.{Known}
+use Rattle.cil_known.specs.Known.{enabled_in, meant_in}
+use Rattle.cil_known.specs.Members.{StandsFor}
+use Rattle.cil_names.specs.Symbols.{symbol_of}
 use Rattle.cil_classes.specs.declared.assigned.Part.{Part}
 use Rattle.cil_classes.specs.declared.nodes.Node.{Node}
 use Rattle.cil_classes.specs.declared.nodes.Run.{Run}

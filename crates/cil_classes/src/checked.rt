@@ -4,7 +4,7 @@ ghost use Rattle.std.specs.Prelude.{◌≡◌};
 ghost use Rattle.cil_faults.specs.Refusal.{Answers};
 ghost use Rattle.cil_macros.specs.Items.{items_in, namespaces_in};
 ghost use Rattle.cil_names.specs.Entries.{AreEntries, is_in};
-ghost use Rattle.cil_names.specs.Numbers.{AreApart, AreNumbers, names_of};
+ghost use Rattle.cil_known.specs.Numbers.{AreApart, AreNumbers, names_of};
 ghost use Rattle.cil_names.specs.Shared.{AreShared};
 ghost use Rattle.cil_names.specs.Unresolved.{ArePermissions};
 ghost use Rattle.cil_classes.specs.ClassRows.{AreRowsOf};
@@ -15,8 +15,9 @@ use crate::rows::class_rows;
 use crate::widths::check_classes;
 use cil_base::Bytes;
 use cil_faults::Failure;
+use cil_known::Numbering;
 use cil_macros::Instances;
-use cil_names::{Lookup, Numbering, Shared};
+use cil_names::{Lookup, Shared};
 use std::alloc::Global;
 
 /// The classes of a policy, where permissions are given as a list in byte order for each entry that is a class, and `shared` are

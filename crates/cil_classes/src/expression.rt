@@ -12,7 +12,8 @@ ghost use Rattle.cil_macros.specs.Item.{all_words_in, words_in};
 ghost use Rattle.cil_names.specs.Unresolved.{term_with, terms_with};
 ghost use Rattle.cil_classes.specs.Numbers.{AreNumbered, IsHeld, IsTally, combined_of, is_number};
 
-use cil_names::{Meaning, behind_word, meaning_at};
+use cil_known::{behind_word, meaning_at};
+use cil_names::Meaning;
 use cil_syntax::{Op, Term};
 
 /// How many of some operands have a permission in their values: some, each, an odd number of them.

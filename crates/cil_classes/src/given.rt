@@ -7,7 +7,7 @@ ghost use Rattle.cil_syntax.specs.declared.term.Word.{Word as AWord};
 ghost use Rattle.cil_syntax.specs.Said.{said_of};
 ghost use Rattle.cil_syntax.specs.Scopes.{ScopedWord};
 ghost use Rattle.cil_macros.specs.Item.{Item};
-ghost use Rattle.cil_names.specs.Known.{BeginWith, IsKnown, enabled_in};
+ghost use Rattle.cil_known.specs.Known.{BeginWith, IsKnown, enabled_in};
 ghost use Rattle.cil_names.specs.Unresolved.{term_with};
 ghost use Rattle.cil_classes.specs.ClassRows.{AreClasses};
 ghost use Rattle.cil_classes.specs.Masks.{GivesNothing, IsGiven};
@@ -15,7 +15,8 @@ ghost use Rattle.cil_classes.specs.Row.{AreOrderlyRows};
 
 use crate::mask::mask_of;
 use crate::row::Class;
-use cil_names::{Known, Meaning, behind_first, laws, meaning_at};
+use cil_known::{Known, behind_first, meaning_at};
+use cil_names::{Meaning, laws};
 use cil_syntax::{Kind, Term};
 
 /// A class, and a mask of its permissions.

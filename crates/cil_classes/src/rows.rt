@@ -2,13 +2,14 @@
 
 ghost use Rattle.std.specs.Prelude.{◌≡◌, ◌+◌, ◌<◌, ◌++◌, IfOk, OnOk, get_or, length};
 ghost use Rattle.cil_names.specs.Entries.{is_in};
-ghost use Rattle.cil_names.specs.Numbers.{AreApart, AreNumbers, names_of};
+ghost use Rattle.cil_known.specs.Numbers.{AreApart, AreNumbers, names_of};
 ghost use Rattle.cil_names.specs.Unresolved.{listed_at};
 ghost use Rattle.cil_classes.specs.ClassRows.{AreClassEntries, AreListed, AreRowsOf};
 
 use crate::row::Class;
 use cil_base::{Bytes, Names, NoMemory};
-use cil_names::{Lookup, Numbering};
+use cil_known::Numbering;
+use cil_names::Lookup;
 use cil_syntax::Kind;
 use std::alloc::Global;
 

@@ -6,9 +6,9 @@ use Rattle.cil_base.proofs.NameSearches.{number_is}
 use Rattle.cil_syntax.specs.declared.kind.Kind.{Kind}
 use Rattle.cil_syntax.specs.declared.kind.Kind.TheVariants as kinds
 use Rattle.cil_macros.specs.Item.{Item}
-use Rattle.cil_names.specs.declared.known.Known.{Known}
-use Rattle.cil_names.specs.Known.{IsKnown, enabled_in}
-use Rattle.cil_names.proofs.StandingLemmas.{its_number}
+use Rattle.cil_known.specs.declared.known.Known.{Known}
+use Rattle.cil_known.specs.Known.{IsKnown, enabled_in}
+use Rattle.cil_known.proofs.StandingLemmas.{its_number}
 use Rattle.cil_conditions.specs.Spelled.{AreAllNumbered, HasOneNumber}
 
 -- a name has one number among rising names

@@ -11,10 +11,10 @@ use Rattle.cil_syntax.specs.Scopes.{ScopedWord}
 use Rattle.cil_syntax.specs.Terms.{Term, Leaf, Name, Form, Terms, nil, cons}
 use Rattle.cil_macros.specs.Item.{Item, OptSet}
 use Rattle.cil_names.specs.Declarations.{Symbol, name_of}
-use Rattle.cil_names.specs.Known.{IsNumbered}
-use Rattle.cil_names.specs.Members.{StandsFor}
+use Rattle.cil_known.specs.Known.{IsNumbered}
+use Rattle.cil_known.specs.Members.{StandsFor}
 use Rattle.cil_names.proofs.DeclareDecided.{symbol_by}
-use Rattle.cil_names.proofs.MemberLemmas.{stands_for_one}
+use Rattle.cil_known.proofs.MemberLemmas.{stands_for_one}
 use Rattle.cil_conditions.specs.declared.branch.Branch.{Branch}
 use Rattle.cil_conditions.specs.declared.token.Token.{Token}
 use Rattle.cil_conditions.specs.declared.token.Token.TheVariants as tokens

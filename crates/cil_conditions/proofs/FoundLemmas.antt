@@ -25,8 +25,8 @@ use Rattle.cil_blocks.specs.Contents.{is_conditional}
 use Rattle.cil_macros.specs.Item.{all_replaced}
 use Rattle.cil_macros.specs.Items.{Kept, condition_at, item_at, items_in, may_say_lists, placed_at, says_as_written, word_at}
 use Rattle.cil_macros.proofs.ItemsThere.{keyword_there, named_there}
-use Rattle.cil_names.specs.declared.known.Known.{Known}
-use Rattle.cil_names.specs.Known.{BeginWith, IsKnown, enabled_in, row_in, value_in}
+use Rattle.cil_known.specs.declared.known.Known.{Known}
+use Rattle.cil_known.specs.Known.{BeginWith, IsKnown, enabled_in, row_in, value_in}
 use Rattle.cil_names.specs.Resolves.{all_wanted_in, is_mapping, wanted_in}
 use Rattle.cil_names.specs.Unresolved.{term_with}
 use Rattle.cil_names.proofs.ReadingLemmas.{plain_said}

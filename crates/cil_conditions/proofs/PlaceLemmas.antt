@@ -19,8 +19,8 @@ use Rattle.cil_base.specs.Rising.{rising_in_front}
 use Rattle.cil_syntax.specs.declared.kind.Kind.{Kind}
 use Rattle.cil_syntax.specs.declared.kind.Kind.TheVariants as kinds
 use Rattle.cil_macros.specs.Items.{Kept, condition_at, items_in}
-use Rattle.cil_names.specs.declared.known.Known.{Known}
-use Rattle.cil_names.specs.Known.{IsKnown, enabled_in}
+use Rattle.cil_known.specs.declared.known.Known.{Known}
+use Rattle.cil_known.specs.Known.{IsKnown, enabled_in}
 use Rattle.std.proofs.lemmas.List.{take_all, take_more}
 use Rattle.cil_conditions.specs.declared.branch.Branch.{Branch}
 use Rattle.cil_conditions.specs.declared.found.Found.{Found}

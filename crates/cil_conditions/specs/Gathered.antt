@@ -7,8 +7,8 @@ use Rattle.cil_syntax.specs.declared.kind.Kind.{Kind}
 use Rattle.cil_syntax.specs.declared.kind.Kind.TheVariants as kinds
 use Rattle.cil_blocks.specs.Contents.{is_conditional}
 use Rattle.cil_macros.specs.Items.{Kept, condition_at, item_at, items_in}
-use Rattle.cil_names.specs.declared.known.Known.{Known}
-use Rattle.cil_names.specs.Known.{IsKnown, enabled_in}
+use Rattle.cil_known.specs.declared.known.Known.{Known}
+use Rattle.cil_known.specs.Known.{IsKnown, enabled_in}
 use Rattle.cil_conditions.specs.declared.found.Found.{Found}
 use Rattle.cil_conditions.specs.declared.branches.Place.{Place}
 use Rattle.cil_conditions.specs.declared.branch.Branch.{Branch}

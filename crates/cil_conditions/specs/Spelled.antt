@@ -7,8 +7,8 @@ use Rattle.cil_syntax.specs.Terms.{Term, Leaf, Name, Form, Terms, nil, cons}
 use Rattle.cil_blocks.specs.Contents.{Branch as SaidBranch}
 use Rattle.cil_macros.specs.Item.{Item, OptSet}
 use Rattle.cil_names.specs.Declarations.{Declared, Symbol, name_of}
-use Rattle.cil_names.specs.Known.{IsNumbered}
-use Rattle.cil_names.specs.Members.{StandsFor}
+use Rattle.cil_known.specs.Known.{IsNumbered}
+use Rattle.cil_known.specs.Members.{StandsFor}
 use Rattle.cil_conditions.specs.declared.branch.Branch.{Branch}
 use Rattle.cil_conditions.specs.declared.token.Token.{Token}
 use Rattle.cil_conditions.specs.declared.token.Token.TheVariants as tokens

@@ -8,7 +8,7 @@ ghost use Rattle.cil_base.specs.Lists.{Lists};
 ghost use Rattle.cil_syntax.specs.declared.kind.Kind as kinds;
 ghost use Rattle.cil_syntax.specs.declared.kind.Kind.TheVariants as variants;
 ghost use Rattle.cil_macros.specs.Items.{items_in};
-ghost use Rattle.cil_names.specs.Known.{IsKnown, enabled_in, row_in};
+ghost use Rattle.cil_known.specs.Known.{IsKnown, enabled_in, row_in};
 ghost use Rattle.cil_names.specs.Rows.{IsTableOf};
 ghost use Rattle.cil_conditions.specs.Gathered.{ArePlacesOf, IsPlaceOf, both_in};
 ghost use Rattle.cil_conditions.specs.Numbered.{AreBranchesOf, number_for, place_cmp};
@@ -17,8 +17,8 @@ ghost use Rattle.cil_conditions.specs.Order.{branch_cmp};
 use crate::branch::Branch;
 use crate::found::{Found, found_in};
 use cil_base::{NoMemory, short};
+use cil_known::Known;
 use cil_macros::Instances;
-use cil_names::Known;
 use std::alloc::Global;
 use std::marker::Model;
 

@@ -12,14 +12,15 @@ use Rattle.cil_syntax.specs.declared.kind.Kind.{Kind}
 use Rattle.cil_syntax.specs.Scopes.{ScopedWord}
 use Rattle.cil_macros.specs.Item.{Item, OptSet}
 use Rattle.cil_names.proofs.DeclareDecided.{symbol_by}
-use Rattle.cil_names.proofs.StandingLemmas as standings
+use Rattle.cil_known.proofs.StandingLemmas as standings
 use Rattle.cil_names.specs.declared.entry.Entry.{Entry}
-use Rattle.cil_names.specs.declared.known.Known.{Known}
+use Rattle.cil_known.specs.declared.known.Known.{Known}
 use Rattle.cil_names.specs.Declarations.{Declared, Symbol, name_of}
 use Rattle.cil_names.specs.Entries.{IsEntryFor}
-use Rattle.cil_names.specs.Known.{HasNumberFor, IsNumbered, enabled_in, meant_in, set_meant}
-use Rattle.cil_names.specs.Members.{StandsFor}
-use Rattle.cil_names.specs.Numbers.{AreApart, has_section, spelled_of, symbol_of}
+use Rattle.cil_known.specs.Known.{HasNumberFor, IsNumbered, enabled_in, meant_in, set_meant}
+use Rattle.cil_known.specs.Members.{StandsFor}
+use Rattle.cil_known.specs.Numbers.{AreApart, has_section, spelled_of}
+use Rattle.cil_names.specs.Symbols.{symbol_of}
 use Rattle.cil_mls.specs.Edges.{IsFixed, IsNotFixed}
 use Rattle.cil_mls.specs.Ordering.{AreNumbered, HasNoOrder, IsBelow, IsNumberedOrder}
 use Rattle.cil_mls.specs.Pairs.{IsPairIn}

@@ -9,9 +9,9 @@ use Rattle.cil_syntax.specs.Scopes.{ScopedWord}
 use Rattle.cil_syntax.specs.Terms.{Term, Leaf, Form, Terms, nil, cons}
 use Rattle.cil_macros.specs.Item.{Item, OptSet, is_enabled}
 use Rattle.cil_names.specs.Declarations.{Declared, Symbol}
-use Rattle.cil_names.specs.declared.known.Known.{Known}
-use Rattle.cil_names.specs.Known.{AreStanding, IsKnown, IsNumbered}
-use Rattle.cil_names.specs.Members.{StandsFor}
+use Rattle.cil_known.specs.declared.known.Known.{Known}
+use Rattle.cil_known.specs.Known.{AreStanding, IsKnown, IsNumbered}
+use Rattle.cil_known.specs.Members.{StandsFor}
 use Rattle.cil_mls.specs.Orders.{IsOneOrder}
 
 -- words, one after another

@@ -7,7 +7,8 @@ ghost use Rattle.cil_classes.specs.NodeOrder.{node_cmp};
 use crate::answers::{ByNames, Named, NamedQuestion, is_answer};
 use cil_base::NoMemory;
 use cil_classes::{ClassId, ClassMasks, GivenPermissions, Node, expand_perms};
-use cil_names::{Known, Lookup, Meaning, OptSet, Words};
+use cil_known::Known;
+use cil_names::{Lookup, Meaning, OptSet, Words};
 use cil_syntax::{Excerpt, LookedUp, Sign, Term};
 use std::alloc::Global;
 

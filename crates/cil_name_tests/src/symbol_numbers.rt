@@ -5,7 +5,8 @@ ghost use Rattle.cil_names.specs.Entries.{AreEntries};
 
 use crate::answers::{ByNames, Named, NamedQuestion, is_answer, row_holds, text_of};
 use crate::optional_choices::flags;
-use cil_names::{Lookup, Numbering, OptSet, numbered};
+use cil_known::{Numbering, numbered};
+use cil_names::{Lookup, OptSet};
 use cil_syntax::{Bytes, Kind};
 use std::alloc::Global;
 

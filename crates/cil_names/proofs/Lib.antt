@@ -1,7 +1,6 @@
 pub mod AnswerLemmas
 pub mod AskedLemmas
 pub mod AskedPartLemmas
-pub mod BehindLemmas
 pub mod CandidateLemmas
 mod CommonExamples
 pub mod DeclLemmas
@@ -17,18 +16,14 @@ pub mod DeclareRunLemmas
 pub mod DeclareScopes
 pub mod DeclareStatements
 pub mod EntryLemmas
-pub mod FamilyLemmas
 pub mod FillLemmas
 pub mod ListedLemmas
 pub mod MeaningLemmas
-mod MemberExamples
-pub mod MemberLemmas
-pub mod NumberLemmas
+pub mod NamePlaceLemmas
 pub mod OrderLemmas
 pub mod PermissionLemmas
 pub mod PermissionNumberLemmas
 pub mod PermissionWordLemmas
-pub mod Qualified
 pub mod ReadingLemmas
 pub mod ResolvesLemmas
 pub mod RoundLemmas
@@ -36,11 +31,7 @@ pub mod RowLemmas
 pub mod ScopeLemmas
 pub mod SharedLemmas
 pub mod SoleLemmas
-pub mod SpelledLemmas
 pub mod UnresolvedLemmas
 pub mod WordedLemmas
 pub mod WrittenPartLemmas
-pub mod StandLemmas
-pub mod StandingLemmas
-pub mod LeafLemmas
 pub mod UnscopedLemmas

@@ -24,7 +24,7 @@ use Rattle.cil_names.specs.Classes.{is_class_at}
 use Rattle.cil_names.specs.Declarations.{Declaration, IsDeclaration, Symbol, by, declared_by}
 use Rattle.cil_names.specs.Entries.{AreEntries, HasNoEntry, IsAnswer, IsEntryAt, IsNamed}
 use Rattle.cil_macros.specs.Item.{Item, OptSet, is_enabled, nobody}
-use Rattle.cil_names.specs.Numbers.{symbol_of}
+use Rattle.cil_names.specs.Symbols.{symbol_of}
 use Rattle.cil_names.specs.PermissionWords.{has_permission_at, listed_of}
 use Rattle.cil_names.specs.Resolves.{Permission as APermission, fits, found_in, gives_permission, has, has_permission, is_class_common, listed_permissions, lists_named, lists_permission, names_outside, resolves, shares_permission, shares_words}
 use Rattle.cil_syntax.specs.Kinds.{is_wanted}

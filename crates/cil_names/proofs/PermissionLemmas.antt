@@ -48,7 +48,7 @@ use Rattle.cil_macros.specs.Items.{Kept, item_at, items_in, may_say_lists, place
 use Rattle.cil_macros.specs.Walks.{written_in}
 use Rattle.cil_macros.proofs.ItemLemmas.{items_taken}
 use Rattle.cil_macros.proofs.ItemsThere.{named_there}
-use Rattle.cil_names.specs.Numbers.{symbol_of}
+use Rattle.cil_names.specs.Symbols.{symbol_of}
 use Rattle.cil_names.specs.Permissions.{AreEmpty, AreListed, AreOwn, DeclaresList, DeclaresNoList, SaysList, SaysNoList, has_list, list_sign, listed_by}
 use Rattle.cil_names.specs.Resolves.{fits, gives_permission, listed_permissions, lists_permission}
 use Rattle.cil_syntax.specs.Kinds.{is_wanted}

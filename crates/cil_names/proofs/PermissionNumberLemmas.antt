@@ -16,11 +16,11 @@ use Rattle.cil_names.specs.Classes.{is_class_at}
 use Rattle.cil_names.specs.declared.entry.Entry.{Entry}
 use Rattle.cil_names.specs.Entries.{is_declared_at, listed, place_where}
 use Rattle.cil_names.specs.Meanings.{meant}
-use Rattle.cil_names.specs.Numbers.{symbol_of}
+use Rattle.cil_names.specs.Symbols.{symbol_of}
 use Rattle.cil_names.specs.PermissionWords.{class_with, has_permission_at, listed_for, listed_of, number_among, number_with}
 use Rattle.cil_names.specs.Resolves.{has_permission}
 use Rattle.cil_names.specs.Unresolved.{ArePermissions, listed_at}
-use Rattle.cil_names.proofs.NumberLemmas.{is_listed_by}
+use Rattle.cil_names.proofs.NamePlaceLemmas.{is_listed_by}
 
 -- ---- the list of an entry
 

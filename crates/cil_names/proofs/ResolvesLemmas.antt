@@ -16,7 +16,7 @@ use Rattle.cil_names.specs.declared.entry.Entry.{Entry}
 use Rattle.cil_names.specs.Entries.{AreEntries, candidate, candidates_of, is_declared_at, is_entry_of, listed}
 use Rattle.cil_names.specs.Laws.{CandidatesAreEntries, ResolvesByCandidates}
 use Rattle.cil_names.specs.Meanings.{meant}
-use Rattle.cil_names.specs.Numbers.{symbol_of}
+use Rattle.cil_names.specs.Symbols.{symbol_of}
 use Rattle.cil_names.specs.PermissionWords.{IsAnswerFor, class_with, has_permission_at, wanted_candidates, wanted_meaning}
 use Rattle.cil_names.specs.Resolves.{Wanted, Word as AWord, Permission as APermission, has_permission, resolves}
 use Rattle.cil_names.proofs.CandidateLemmas.{place_is}

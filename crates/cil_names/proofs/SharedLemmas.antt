@@ -43,7 +43,7 @@ use Rattle.cil_names.specs.declared.entry.Entry.{Entry}
 use Rattle.cil_names.specs.declared.shared.Shared.{Shared}
 use Rattle.cil_names.specs.Declarations.{Symbol, by, declared_by}
 use Rattle.cil_names.specs.Entries.{AreEntries, HasNoEntry, IsEntryAt, IsNamed, is_declared_at, listed as listing}
-use Rattle.cil_names.specs.Numbers.{symbol_of}
+use Rattle.cil_names.specs.Symbols.{symbol_of}
 use Rattle.cil_names.specs.Permissions.{AreOwn}
 use Rattle.cil_names.specs.Resolves.{fits, found_in, gives_permission, has, has_permission, is_class_common, listed_permissions, lists_named, lists_permission, names_outside, shares_permission, shares_words}
 use Rattle.cil_names.specs.Shared.{AreApart, AreShared, HaveCommons, IsAddedTo, IsEntryOf, IsEntryOutside, IsOutside, IsPairOf, Pair, Shares, lists_name, shares_name}

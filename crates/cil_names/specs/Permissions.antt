@@ -20,7 +20,7 @@ use Rattle.cil_blocks.specs.Namespaces.{AreNamespaces, IsNumber}
 use Rattle.cil_names.specs.declared.entry.Entry.{Entry}
 use Rattle.cil_names.specs.declared.permissions.Listing.{Listing}
 use Rattle.cil_names.specs.Entries.{AreOrdered, IsEntryAt}
-use Rattle.cil_names.specs.Numbers.{symbol_of}
+use Rattle.cil_names.specs.Symbols.{symbol_of}
 use Rattle.cil_faults.specs.declared.spot.Spot.{Spot}
 use Rattle.cil_syntax.specs.Scopes.{ScopedWord}
 use Rattle.cil_syntax.specs.Terms.{Name, Terms, cons}

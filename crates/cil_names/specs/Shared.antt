@@ -17,7 +17,7 @@ use Rattle.cil_macros.specs.Item.{Item, is_enabled, nobody}
 use Rattle.cil_names.specs.Declarations.{Symbol}
 use Rattle.cil_names.specs.declared.entry.Entry.{Entry}
 use Rattle.cil_names.specs.declared.shared.Shared.{Shared}
-use Rattle.cil_names.specs.Numbers.{symbol_of}
+use Rattle.cil_names.specs.Symbols.{symbol_of}
 use Rattle.cil_names.specs.SharedOrder.{shared_cmp}
 use Rattle.cil_names.specs.Resolves.{is_class_common, names_outside}
 use Rattle.cil_names.specs.Unresolved.{listed_at}

@@ -22,7 +22,7 @@ pub struct Entry<'a> {
 impl Entry<'_> {
     ghost use Rattle.std.specs.Prelude.{◌≡◌};
     ghost use Rattle.cil_names.specs.Entries.{is_in};
-    ghost use Rattle.cil_names.specs.Numbers.{is_of};
+    ghost use Rattle.cil_names.specs.Symbols.{is_of};
 
     /// Whether it is of a kind, and declared where these optionals are enabled.
     pub fn is_declared_as(&self, kind: Kind, enabled: &OptSet) -> bool

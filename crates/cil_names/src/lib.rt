@@ -1,8 +1,8 @@
 //! What words name: declared names as entries, and look-up in scopes. Namespaces are numbers, as cil_blocks has them.
 //!
 //! Start at `gather.rt` (`declare`) and `names.rt` (`Names::resolve`, `Names::candidates`); `guesses.rt` guesses where names
-//! are, and `namesakes.rt` checks the guesses. `numbers.rt` numbers the declared symbols by their names. cil_words looks up each
-//! word of each statement once.
+//! are, and `namesakes.rt` checks the guesses. cil_words looks up each word of each statement once, and cil_known numbers the
+//! declared symbols.
 //! `specs/Resolves.antt` says what a word names, over statements as `Item.antt` of cil_macros has them; `specs/Declarations.antt`
 //! what is declared; `specs/Entries.antt` how entries and numbers of namespaces stand for that; `laws.rt` says that what a
 //! word means is the entry that it names. `permission_word.rt` has what permission words name
@@ -21,23 +21,21 @@ mod enabled;
 mod entry;
 mod gather;
 mod guesses;
-mod known;
 pub mod laws;
 mod look;
 mod meaning;
-mod meanings_behind;
+mod name_places;
 mod names;
 mod namesakes;
-mod numbers;
 mod opt_set;
 mod permission_word;
 mod permissions;
 pub mod reading;
 mod row;
 mod run;
+mod same;
 mod shared;
 mod sought;
-pub mod spelled;
 mod table;
 mod unscoped;
 pub mod worded;
@@ -48,15 +46,14 @@ pub use enabled::{flags_of, is_declared};
 pub use entry::Entry;
 pub use gather::declare;
 pub use guesses::{Guesses, hash_of};
-pub use known::{Known, meaning_at, same_keyword, same_kind};
 pub use meaning::Meaning;
-pub use meanings_behind::{behind, behind_first, behind_word};
+pub use name_places::place_among;
 pub use names::Names;
-pub use numbers::{Numbering, Sections, numbered};
 pub use opt_set::{OptSet, is_set};
 pub use permission_word::{
     Class, ClassPermission, class_at, class_of, permission_of, with_permission,
 };
 pub use permissions::permissions_of;
+pub use same::{same_keyword, same_kind};
 pub use shared::{Shared, commons_of, shared_at};
 pub use table::{Lookup, Words};

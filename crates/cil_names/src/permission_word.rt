@@ -24,7 +24,7 @@ use crate::by_name::entry_in;
 use crate::entry::Entry;
 use crate::guesses::Guesses;
 use crate::look::resolve;
-use crate::numbers::{place_among, place_guessed};
+use crate::name_places::{place_among, place_guessed};
 use crate::shared::where_always;
 use cil_blocks::Namespaces;
 use cil_syntax::{Bytes, Sign, Word};

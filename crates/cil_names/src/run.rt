@@ -14,9 +14,9 @@ ghost use Rattle.cil_names.specs.Worded.{IsOfStatement, IsWordless};
 
 use crate::asked::parts_at;
 use crate::content::are_same_parts;
-use crate::known::same_kind;
 use crate::reading::is_at;
 use crate::row::Row;
+use crate::same::same_kind;
 use crate::worded::is_worded;
 use cil_base::NoMemory;
 use cil_macros::{Instances, Part};

@@ -14,11 +14,12 @@ use Rattle.cil_syntax.specs.Scopes.{ScopedWord}
 use Rattle.cil_macros.specs.Item.{Item, OptSet}
 use Rattle.cil_names.proofs.DeclareDecided.{symbol_by}
 use Rattle.cil_names.specs.declared.entry.Entry.{Entry}
-use Rattle.cil_names.specs.declared.known.Known.{Known}
+use Rattle.cil_known.specs.declared.known.Known.{Known}
 use Rattle.cil_names.specs.Declarations.{Declared, Symbol, name_of}
 use Rattle.cil_names.specs.Entries.{IsEntryFor}
-use Rattle.cil_names.specs.Known.{IsKnown, IsNumbered, enabled_in}
-use Rattle.cil_names.specs.Numbers.{AreApart, has_section, spelled_of, symbol_of}
+use Rattle.cil_known.specs.Known.{IsKnown, IsNumbered, enabled_in}
+use Rattle.cil_known.specs.Numbers.{AreApart, has_section, spelled_of}
+use Rattle.cil_names.specs.Symbols.{symbol_of}
 use Rattle.cil_names.specs.Resolves.{has_permission}
 use Rattle.cil_classes.specs.ClassRows.{AreClasses}
 use Rattle.cil_classes.specs.Given.{HasPair, of_class, of_map, of_name}

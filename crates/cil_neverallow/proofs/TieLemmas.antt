@@ -13,10 +13,10 @@ use Rattle.cil_syntax.specs.declared.kind.Keyword.TheVariants as keywords
 use Rattle.cil_syntax.specs.declared.kind.Kind.{Kind}
 use Rattle.cil_syntax.specs.declared.kind.Kind.TheVariants as kinds
 use Rattle.cil_macros.specs.Item.{Item}
-use Rattle.cil_names.specs.declared.known.Known.{Known}
+use Rattle.cil_known.specs.declared.known.Known.{Known}
 use Rattle.cil_names.specs.Declarations.{name_of}
-use Rattle.cil_names.specs.Known.{IsKnown, enabled_in}
-use Rattle.cil_names.specs.Numbers.{AreApart}
+use Rattle.cil_known.specs.Known.{IsKnown, enabled_in}
+use Rattle.cil_known.specs.Numbers.{AreApart}
 use Rattle.cil_classes.specs.ClassRows.{AreClasses}
 use Rattle.cil_rules.specs.CoveredBy.{IsCoveredBy}
 use Rattle.cil_rules.specs.Records.{ignored, CaseBy, IsRuleOf}

@@ -2,7 +2,7 @@
 use Rattle.std.specs.Prelude.{◌≡◌, ℕ, List, Some, slice_get}
 use Rattle.cil_classes.specs.declared.row.Class.{Class}
 use Rattle.cil_names.specs.Declarations.{name_of}
-use Rattle.cil_names.specs.Known.{IsNumbered}
+use Rattle.cil_known.specs.Known.{IsNumbered}
 use Rattle.cil_neverallow.specs.NeverFaults.{Quadruple}
 use Rattle.cil_neverallow.specs.declared.overlap.Overlap.{Overlap}
 

@@ -15,9 +15,9 @@ use Rattle.cil_conditions.specs.declared.branch.Branch.{Branch}
 use Rattle.cil_names.specs.Declarations.{Symbol, name_of}
 use Rattle.cil_macros.specs.Item.{Item, OptSet, is_enabled}
 use Rattle.cil_syntax.specs.Scopes.{ScopedWord}
-use Rattle.cil_names.specs.Members.{StandsFor}
+use Rattle.cil_known.specs.Members.{StandsFor}
 use Rattle.cil_classes.specs.Given.{HasPair}
-use Rattle.cil_names.specs.Known.{IsNumbered}
+use Rattle.cil_known.specs.Known.{IsNumbered}
 
 -- what one record is about: the branch and the words of one statement, and one class
 pub record Case : Type 0 where

@@ -15,7 +15,7 @@ use Rattle.cil_tables.specs.declared.context.Context.{Context as Numbers}
 use Rattle.cil_classes.specs.declared.row.Class.{Class}
 use Rattle.cil_rules.specs.Rule.{Rule, Target, Types, Itself}
 use Rattle.cil_tables.specs.Agrees.{Agrees, CoverAs, SameContext, SamePermission}
-use Rattle.cil_names.specs.Says.{AreJoined}
+use Rattle.cil_known.specs.Says.{AreJoined}
 use Rattle.cil_tables.specs.Contexts.{Context, IsValid}
 use Rattle.cil_conditions.proofs.ConditionLemmas.{branches_agree, chosen_is_said}
 use Rattle.cil_conditions.specs.Conditions.{IsChosen, Settings}
@@ -26,7 +26,7 @@ use Rattle.cil_rules.specs.Records.{Case, HasNumber, HasTarget, IsTargetOf}
 use Rattle.cil_tables.specs.Links.{IsLink}
 use Rattle.cil_tables.specs.Compiled.{AreRulesOf, IsTable}
 use Rattle.cil_tables.specs.Named.{IsNameOf}
-use Rattle.cil_names.specs.Known.{IsNumbered}
+use Rattle.cil_known.specs.Known.{IsNumbered}
 use Rattle.std.proofs.lemmas.Option.{same_Some}
 use Rattle.cil_names.specs.Declarations.{Declared, Symbol, name_of}
 use Rattle.cil_macros.specs.Item.{Item, OptSet}
@@ -35,7 +35,7 @@ use Rattle.cil_base.proofs.SearchLemmas.{one_number as one_of_key}
 use Rattle.cil_tables.specs.Aliases.{NamesType}
 use Rattle.cil_tables.specs.Meaning.{IsContext, IsTypeText}
 use Rattle.cil_rules.specs.Covers.{HasCover, Reaches}
-use Rattle.cil_names.specs.Members.{StandsFor}
+use Rattle.cil_known.specs.Members.{StandsFor}
 use Rattle.cil_classes.specs.Given.{HasPair}
 use Rattle.cil_rules.proofs.RuleLemmas.{pair_declared}
 use Rattle.cil_tables.specs.Table.{Table, boolean_names}

@@ -17,11 +17,12 @@ use Rattle.cil_syntax.specs.declared.kind.Kind.TheVariants as kinds
 use Rattle.cil_syntax.proofs.KindLemmas.{one_kind, same_kind}
 use Rattle.cil_macros.specs.Item.{Item}
 use Rattle.cil_names.specs.declared.entry.Entry.{Entry}
-use Rattle.cil_names.specs.declared.known.Known.{Known}
+use Rattle.cil_known.specs.declared.known.Known.{Known}
 use Rattle.cil_names.specs.Declarations.{name_of}
 use Rattle.cil_names.specs.Entries.{is_declared_in}
-use Rattle.cil_names.specs.Known.{HaveMembers, IsKnown, IsMemberNumber, enabled_in}
-use Rattle.cil_names.specs.Numbers.{is_of, spelled_of, symbol_of}
+use Rattle.cil_known.specs.Known.{HaveMembers, IsKnown, IsMemberNumber, enabled_in}
+use Rattle.cil_known.specs.Numbers.{spelled_of}
+use Rattle.cil_names.specs.Symbols.{is_of, symbol_of}
 use Rattle.cil_names.proofs.DeclareDecided.{symbol_by}
 use Rattle.cil_tables.specs.declared.tables.Alias.{Alias}
 use Rattle.cil_tables.specs.AliasRows.{AreAliasesAt, IsAliasAt, alias_to}

@@ -2,9 +2,9 @@
 use Rattle.std.proofs.Common.{◌≡◌, ◌⊎◌, ℕ, zero, suc, ◌<◌, true, false, List, refl, sym, ◌∙◌, ap, inl, inr, arith}
 use Rattle.cil_macros.specs.Item.{Item, OptSet}
 use Rattle.cil_names.specs.Declarations.{Symbol}
-use Rattle.cil_names.specs.Family.{Family, IsRanked, Range, Solves, SolvesBelow, is_given}
-use Rattle.cil_names.specs.Spaces.{SpaceOf, is_set}
-use Rattle.cil_names.proofs.FamilyLemmas.{solved_one_more}
+use Rattle.cil_known.specs.Family.{Family, IsRanked, Range, Solves, SolvesBelow, is_given}
+use Rattle.cil_known.specs.Spaces.{SpaceOf, is_set}
+use Rattle.cil_known.proofs.FamilyLemmas.{solved_one_more}
 
 below_or_at : (i k : ℕ) → i < suc k → (i < k) ⊎ (i ≡ k)
 below_or_at i k l = grind arith

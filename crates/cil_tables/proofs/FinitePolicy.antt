@@ -12,13 +12,13 @@ use Rattle.cil_faults.specs.declared.spot.Spot.{Spot}
 use Rattle.cil_syntax.specs.Terms.{Term, Leaf, Name, Form, Terms, nil, cons}
 use Rattle.cil_rules.specs.Records.{HasNumber}
 use Rattle.cil_tables.specs.Named.{IsNameOf}
-use Rattle.cil_names.specs.Known.{IsNumbered}
+use Rattle.cil_known.specs.Known.{IsNumbered}
 use Rattle.cil_syntax.specs.Scopes.{ScopedWord}
 use Rattle.cil_syntax.proofs.DecidedEquality.{kind_is, same_namespace}
 use Rattle.cil_names.proofs.DeclareDecided.{same_symbol}
 use Rattle.cil_names.specs.Declarations.{Declaration, declared_by, IsDeclaration, object, by, object_role, Declared, Symbol, name_of}
 use Rattle.cil_macros.specs.Item.{Item, OptSet, is_enabled}
-use Rattle.cil_names.specs.Members.{StandsFor}
+use Rattle.cil_known.specs.Members.{StandsFor}
 use Rattle.cil_classes.specs.Given.{HasPair, Holder, IsGiven, by_mapping, by_set, mapped, named, of_class, of_map, of_name}
 use Rattle.cil_classes.specs.Values.{in_value, in_value_there}
 use Rattle.cil_classes.proofs.ValueLemmas.{value_there}

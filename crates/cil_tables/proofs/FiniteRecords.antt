@@ -16,12 +16,12 @@ use Rattle.cil_conditions.specs.declared.token.Token.TheVariants as tokens
 use Rattle.cil_conditions.specs.Conditions.{FormNamesBooleans, IsSaid, NamesBooleans, op_of, turns}
 use Rattle.cil_rules.specs.Records.{Case, HasTarget, IsCase, spelled}
 use Rattle.cil_tables.specs.Links.{IsLink}
-use Rattle.cil_names.specs.Known.{IsNumbered}
+use Rattle.cil_known.specs.Known.{IsNumbered}
 use Rattle.cil_syntax.proofs.DecidedEquality.{keyword_is, op_is}
 use Rattle.cil_names.specs.Declarations.{Symbol, name_of}
 use Rattle.cil_macros.specs.Item.{Item, OptSet, is_enabled}
 use Rattle.cil_syntax.specs.Scopes.{ScopedWord}
-use Rattle.cil_names.specs.Members.{StandsFor}
+use Rattle.cil_known.specs.Members.{StandsFor}
 use Rattle.cil_classes.specs.Given.{HasPair}
 use Rattle.cil_tables.proofs.Finite.{Finite, decided_some, finite_all, finite_given, finite_list, finite_one, finite_same}
 use Rattle.cil_tables.proofs.FiniteFaults.{finite_permissions}

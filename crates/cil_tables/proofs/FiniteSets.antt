@@ -17,8 +17,8 @@ use Rattle.cil_syntax.specs.declared.kind.Keyword.{Keyword}
 use Rattle.cil_syntax.specs.Table.{entry_of}
 use Rattle.cil_macros.specs.Item.{Item, OptSet}
 use Rattle.cil_names.specs.Declarations.{nowhere}
-use Rattle.cil_names.specs.Members.{space_of}
-use Rattle.cil_names.specs.Spaces.{Sets, any_sets}
+use Rattle.cil_known.specs.Members.{space_of}
+use Rattle.cil_known.specs.Spaces.{Sets, any_sets}
 use Rattle.cil_attrs.specs.SetFaults.{AliasTwice, IsItemName, OpenAlias, SetFault, alias_cycle, alias_open, alias_twice, limit_of, many, set_cycle}
 use Rattle.cil_classes.specs.Faults.{ClassFault}
 use Rattle.cil_tables.specs.Named.{IsNameOf}

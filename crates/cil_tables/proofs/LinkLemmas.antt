@@ -14,11 +14,11 @@ use Rattle.cil_syntax.specs.declared.term.Word.{Word}
 use Rattle.cil_syntax.specs.Terms.{Leaf, Terms, nil, cons}
 use Rattle.cil_macros.specs.Item.{Item, OptSet, all_replaced, is_enabled}
 use Rattle.cil_syntax.specs.Scopes.{ScopedWord}
-use Rattle.cil_names.specs.declared.known.Known.{Known}
+use Rattle.cil_known.specs.declared.known.Known.{Known}
 use Rattle.cil_tables.specs.declared.tables.Link.{Link}
 use Rattle.cil_tables.specs.Links.{AreJoinedBy, IsLink, JoinsAll, JoinsNothing, LinkBy}
-use Rattle.cil_names.specs.Known.{HasNumberFor, enabled_in, meant_in, value_in}
-use Rattle.cil_names.specs.Members.{StandsFor}
+use Rattle.cil_known.specs.Known.{HasNumberFor, enabled_in, meant_in, value_in}
+use Rattle.cil_known.specs.Members.{StandsFor}
 use Rattle.cil_names.specs.Resolves.{Word as AWord, all_wanted_in, wanted_in}
 use Rattle.cil_tables.specs.Table.{link_cmp}
 use Rattle.cil_macros.proofs.FormLemmas.{no_pair, pair_across}

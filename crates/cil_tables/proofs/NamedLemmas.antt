@@ -15,12 +15,13 @@ use Rattle.cil_syntax.specs.declared.kind.Kind.TheVariants as kinds
 use Rattle.cil_syntax.specs.declared.kind.Sign.TheVariants as signs
 use Rattle.cil_base.specs.Sorted.{lists_of}
 use Rattle.cil_names.specs.declared.entry.Entry.{Entry}
-use Rattle.cil_names.specs.declared.numbers.Sections.{Sections}
+use Rattle.cil_known.specs.declared.numbers.Sections.{Sections}
 use Rattle.cil_blocks.specs.declared.namespaces.Space.{Space}
 use Rattle.cil_names.specs.Declarations.{Declared, Symbol, name_of}
 use Rattle.cil_names.specs.Entries.{AreEntries, is_declared_in}
 use Rattle.cil_macros.specs.Item.{Item, OptSet}
-use Rattle.cil_names.specs.Numbers.{AreApart, AreNumbers, IsNameAmong, has_section, names_of, spelled_of, symbol_of}
+use Rattle.cil_known.specs.Numbers.{AreApart, AreNumbers, IsNameAmong, has_section, names_of, spelled_of}
+use Rattle.cil_names.specs.Symbols.{symbol_of}
 use Rattle.cil_names.specs.Resolves.{has_permission}
 use Rattle.cil_syntax.specs.Kinds.{is_wanted}
 use Rattle.cil_names.specs.Unresolved.{ArePermissions, listed_at}

@@ -15,10 +15,10 @@ use Rattle.cil_syntax.specs.Table.{entry_of}
 use Rattle.cil_syntax.specs.Terms.{Term}
 use Rattle.cil_macros.specs.Item.{Item, OptSet, is_enabled}
 use Rattle.cil_names.specs.Declarations.{Declaration, Declared, IsDeclaration, Symbol, by, object}
-use Rattle.cil_names.specs.Family.{DependsOn, Family, IsRanked, Solves, Uses, at_once, further, gives, holds, in_value, is_given, is_giving, no_range}
-use Rattle.cil_names.specs.Members.{StandsFor, gives_category_aliases, gives_role_attributes, gives_sensitivity_aliases, gives_type_aliases, gives_type_attributes, gives_user_attributes, space_of}
-use Rattle.cil_names.specs.Spaces.{Sets, any_sets, names}
-use Rattle.cil_names.proofs.FamilyLemmas.{stands_is}
+use Rattle.cil_known.specs.Family.{DependsOn, Family, IsRanked, Solves, Uses, at_once, further, gives, holds, in_value, is_given, is_giving, no_range}
+use Rattle.cil_known.specs.Members.{StandsFor, gives_category_aliases, gives_role_attributes, gives_sensitivity_aliases, gives_type_aliases, gives_type_attributes, gives_user_attributes, space_of}
+use Rattle.cil_known.specs.Spaces.{Sets, any_sets, names}
+use Rattle.cil_known.proofs.FamilyLemmas.{stands_is}
 use Rattle.cil_tables.specs.Laws.{is_flat}
 use Rattle.cil_tables.proofs.WideClasses.{of_own_kind}
 

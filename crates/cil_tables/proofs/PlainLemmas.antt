@@ -27,10 +27,10 @@ use Rattle.cil_macros.proofs.SaidTerms.{front_written, said_terms}
 use Rattle.cil_names.specs.declared.entry.Entry.{Entry}
 use Rattle.cil_names.specs.Declarations.{Declaration, Declared, IsDeclaration, Symbol, by, declared_by, name_of, object}
 use Rattle.cil_names.specs.Entries.{AreEntries}
-use Rattle.cil_names.specs.Numbers.{ArePlain, ArePlainNames}
+use Rattle.cil_known.specs.Numbers.{ArePlain, ArePlainNames}
 use Rattle.cil_names.proofs.DeclareDecided.{symbol_by}
 use Rattle.cil_names.proofs.DeclareRowLemmas.{declares_written}
-use Rattle.cil_names.proofs.Qualified.{plain_name, spelled_one, turned_plain}
+use Rattle.cil_known.proofs.Qualified.{plain_name, spelled_one, turned_plain}
 use Rattle.cil_tables.proofs.WideClasses.{in_front, of_own_kind}
 
 -- each is a name as the language has them

@@ -3,7 +3,7 @@ use Rattle.std.proofs.Common.{◌≡◌, true, false, refl, ap}
 use Rattle.cil_syntax.specs.declared.kind.Keyword.{Keyword}
 use Rattle.cil_syntax.specs.declared.kind.Keyword.TheVariants as keywords
 use Rattle.cil_syntax.specs.declared.kind.Kind.TheVariants as kinds
-use Rattle.cil_names.specs.Members.{gives_role_attributes, gives_type_aliases, gives_type_attributes, gives_user_attributes, space_of}
+use Rattle.cil_known.specs.Members.{gives_role_attributes, gives_type_aliases, gives_type_attributes, gives_user_attributes, space_of}
 use Rattle.cil_attrs.specs.Givers.{HasKinds}
 use Rattle.cil_attrs.specs.NameSpaces.{roles_kinds, types_kinds, users_kinds}
 

@@ -7,7 +7,7 @@ use Rattle.cil_tables.specs.declared.context.Context.{Context as Numbers}
 use Rattle.cil_classes.specs.declared.row.Class.{Class}
 use Rattle.cil_tables.specs.Contexts.{Context, IsValid}
 use Rattle.cil_rules.specs.Covered.{IsCovered}
-use Rattle.cil_names.specs.Known.{IsNumbered}
+use Rattle.cil_known.specs.Known.{IsNumbered}
 use Rattle.cil_tables.specs.Compiled.{IsTable}
 use Rattle.cil_names.specs.Declarations.{Declared, Symbol, name_of}
 use Rattle.cil_tables.specs.Faults.{ArePolicyFaults}

@@ -2,9 +2,10 @@
 use Rattle.std.specs.Prelude.{◌≡◌, ◌↔◌, ◌<◌, ℕ, true, List, [], Contains, Some, get_or, slice_get}
 use Rattle.cil_syntax.specs.declared.kind.Kind.TheVariants as kinds
 use Rattle.cil_names.specs.declared.entry.Entry.{Entry}
-use Rattle.cil_names.specs.declared.known.Known.{Known}
-use Rattle.cil_names.specs.Known.{enabled_in}
-use Rattle.cil_names.specs.Numbers.{is_of, spelled_of}
+use Rattle.cil_known.specs.declared.known.Known.{Known}
+use Rattle.cil_known.specs.Known.{enabled_in}
+use Rattle.cil_known.specs.Numbers.{spelled_of}
+use Rattle.cil_names.specs.Symbols.{is_of}
 use Rattle.cil_tables.specs.declared.tables.Alias.{Alias}
 
 abbrev pub alias_to : List ℕ → ℕ → Alias

@@ -3,8 +3,8 @@ use Rattle.std.specs.Prelude.{◌≡◌, ◌⊎◌, ℕ, List}
 use Rattle.cil_syntax.specs.declared.kind.Kind.TheVariants as kinds
 use Rattle.cil_macros.specs.Item.{Item, OptSet}
 use Rattle.cil_names.specs.Declarations.{Declared, Symbol, name_of}
-use Rattle.cil_names.specs.Known.{IsMemberNumber}
-use Rattle.cil_names.specs.Members.{IsMember}
+use Rattle.cil_known.specs.Known.{IsMemberNumber}
+use Rattle.cil_known.specs.Members.{IsMember}
 use Rattle.cil_tables.specs.declared.tables.Alias.{Alias}
 
 -- the qualified name of a declared alias, and the number of the type for which it stands

@@ -9,7 +9,7 @@ use Rattle.cil_names.specs.declared.entry.Entry.{Entry}
 use Rattle.cil_names.specs.declared.shared.Shared.{Shared}
 use Rattle.cil_names.specs.Entries.{AreEntries, is_in}
 use Rattle.cil_names.specs.Faults.{ClashFault, ResolveFault}
-use Rattle.cil_names.specs.Numbers.{ArePlainNames}
+use Rattle.cil_known.specs.Numbers.{ArePlainNames}
 use Rattle.cil_names.specs.Shared.{AreShared}
 use Rattle.cil_names.specs.Unresolved.{ArePermissions}
 use Rattle.cil_optionals.specs.Certificate.{IsRight}

@@ -7,7 +7,7 @@ use Rattle.cil_names.specs.Declarations.{Declared, Symbol, name_of}
 use Rattle.cil_macros.specs.Item.{Item, OptSet}
 use Rattle.cil_tables.specs.Aliases.{NamesType}
 use Rattle.cil_tables.specs.Meaning.{parts_of, object_role}
-use Rattle.cil_names.specs.Says.{AreJoined}
+use Rattle.cil_known.specs.Says.{AreJoined}
 
 -- the user has the role
 abbrev pub HasRole : List Item → OptSet → Symbol → Symbol → Type 0

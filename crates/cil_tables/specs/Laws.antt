@@ -7,8 +7,8 @@ use Rattle.cil_syntax.specs.Laws.{AreReadable}
 use Rattle.cil_syntax.specs.Written.{IsWritten, Written}
 use Rattle.cil_macros.specs.Item.{Item, OptSet}
 use Rattle.cil_names.specs.Declarations.{Symbol}
-use Rattle.cil_names.specs.Family.{Family, IsRanked, Range, Solves}
-use Rattle.cil_names.specs.Spaces.{SpaceOf}
+use Rattle.cil_known.specs.Family.{Family, IsRanked, Range, Solves}
+use Rattle.cil_known.specs.Spaces.{SpaceOf}
 use Rattle.cil_tables.specs.Agrees.{Compiles}
 use Rattle.cil_tables.specs.Faults.{ArePolicyFaults}
 use Rattle.cil_tables.specs.Table.{Table, IsOrderly}

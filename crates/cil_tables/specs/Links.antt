@@ -3,13 +3,13 @@ use Rattle.std.specs.Prelude.{ℕ, List, ◌≡◌, ◌↔◌, Contains, true}
 use Rattle.cil_syntax.specs.declared.kind.Keyword.{Keyword}
 use Rattle.cil_syntax.specs.declared.kind.Kind.{Kind}
 use Rattle.cil_tables.specs.declared.tables.Link.{Link}
-use Rattle.cil_names.specs.Says.{AreJoined}
+use Rattle.cil_known.specs.Says.{AreJoined}
 use Rattle.cil_names.specs.Declarations.{Symbol}
 use Rattle.cil_macros.specs.Item.{Item, OptSet, is_enabled}
-use Rattle.cil_names.specs.Known.{IsNumbered}
+use Rattle.cil_known.specs.Known.{IsNumbered}
 use Rattle.cil_syntax.specs.Terms.{Leaf, nil, cons}
 use Rattle.cil_syntax.specs.Scopes.{ScopedWord}
-use Rattle.cil_names.specs.Members.{StandsFor}
+use Rattle.cil_known.specs.Members.{StandsFor}
 
 -- the numbers of two symbols that an enabled statement joins
 pub record IsLink (xs : List Item) (s : OptSet) (keyword : Keyword) (holder_kind held_kind : Kind) (holders helds : List (List ℕ)) (link : Link) : Type 0 where

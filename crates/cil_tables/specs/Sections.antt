@@ -13,7 +13,7 @@ use Rattle.cil_rules.specs.declared.rule.NamedRule.{NamedRule}
 use Rattle.cil_rules.specs.Kept.{rule_named}
 use Rattle.cil_rules.specs.Records.{CaseBy, IsRuleOf, spelled}
 use Rattle.cil_index.specs.declared.section.NamedRules.{NamedRules}
-use Rattle.cil_names.specs.declared.numbers.Sections.{Sections}
+use Rattle.cil_known.specs.declared.numbers.Sections.{Sections}
 use Rattle.cil_tables.specs.declared.sections.Given.{Given}
 use Rattle.cil_tables.specs.declared.tables.Boolean.{Boolean}
 use Rattle.cil_tables.specs.Compiled.{AreRules}

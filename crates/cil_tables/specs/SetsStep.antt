@@ -3,7 +3,7 @@ use Rattle.std.specs.Prelude.{◌⊎◌, List}
 use Rattle.cil_faults.specs.declared.fault.Fault.{Fault}
 use Rattle.cil_syntax.specs.declared.kind.Kind.TheVariants as kinds
 use Rattle.cil_macros.specs.Item.{Item, OptSet}
-use Rattle.cil_names.specs.Members.{space_of}
+use Rattle.cil_known.specs.Members.{space_of}
 use Rattle.cil_attrs.specs.SetFaults.{SetFault}
 use Rattle.cil_classes.specs.Faults.{ClassFault}
 use Rattle.cil_tables.specs.Booleans.{HasManyBooleans}

@@ -3,9 +3,9 @@ use Rattle.std.specs.Prelude.{ℕ, List}
 use Rattle.cil_syntax.specs.declared.kind.Kind.{Kind}
 use Rattle.cil_syntax.specs.declared.kind.Kind.TheVariants as kinds
 use Rattle.cil_macros.specs.Item.{Item}
-use Rattle.cil_names.specs.declared.known.Known.{Known}
-use Rattle.cil_names.specs.Known.{AreStanding, HaveMembers}
-use Rattle.cil_names.specs.Members.{space_of}
+use Rattle.cil_known.specs.declared.known.Known.{Known}
+use Rattle.cil_known.specs.Known.{AreStanding, HaveMembers}
+use Rattle.cil_known.specs.Members.{space_of}
 use Rattle.cil_attrs.specs.Members.{AreMembers}
 use Rattle.cil_tables.specs.declared.standings.AllMembers.{AllMembers}
 use Rattle.cil_tables.specs.declared.standings.Standings.{Standings}

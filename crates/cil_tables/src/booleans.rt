@@ -7,16 +7,16 @@ ghost use Rattle.cil_faults.specs.declared.spot.Spot.{Spot as ASpot};
 ghost use Rattle.cil_syntax.specs.Said.{all_said};
 ghost use Rattle.cil_syntax.specs.Terms.{Name, cons};
 ghost use Rattle.cil_macros.specs.Items.{item_at, items_in, namespaces_in};
-ghost use Rattle.cil_names.specs.Known.{enabled_in};
+ghost use Rattle.cil_known.specs.Known.{enabled_in};
 ghost use Rattle.cil_tables.specs.declared.tables.Boolean.{Boolean as ABoolean};
 ghost use Rattle.cil_tables.specs.Booleans.{is_boolean, is_default_on, is_on_by, is_yes, named_on};
 ghost use Rattle.cil_tables.specs.Table.{boolean_names};
 
 use crate::tables::Boolean;
 use cil_base::{Bytes, NoMemory, number_of};
+use cil_known::Known;
+use cil_known::spelled::spelled;
 use cil_macros::Instances;
-use cil_names::Known;
-use cil_names::spelled::spelled;
 use cil_syntax::{Keyword, Op, Term};
 use std::alloc::Global;
 

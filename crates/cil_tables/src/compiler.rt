@@ -7,8 +7,8 @@ ghost use Rattle.cil_blocks.specs.Places.{AreStandings, statements_in};
 ghost use Rattle.cil_macros.specs.Items.{items_in, namespaces_in};
 ghost use Rattle.cil_names.specs.declared.entry.Entry.{Entry as AnEntry};
 ghost use Rattle.cil_names.specs.Entries.{AreEntries, is_in};
-ghost use Rattle.cil_names.specs.Known.{IsKnown, enabled_in, row_in};
-ghost use Rattle.cil_names.specs.Numbers.{AreApart, ArePlainNames, names_of};
+ghost use Rattle.cil_known.specs.Known.{IsKnown, enabled_in, row_in};
+ghost use Rattle.cil_known.specs.Numbers.{AreApart, ArePlainNames, names_of};
 ghost use Rattle.cil_names.specs.PermissionWords.{meanings};
 ghost use Rattle.cil_names.specs.Rows.{IsTableOf};
 ghost use Rattle.cil_names.specs.Shared.{AreShared};
@@ -32,11 +32,11 @@ use cil_base::{Bytes, NoMemory};
 use cil_blocks::{Spaces, inherit};
 use cil_classes::{Classes, classes};
 use cil_faults::{Both, Failure, together};
+use cil_known::{Known, Numbering, Sections, numbered};
 use cil_macros::{Instances, expand};
 use cil_modset::ModuleSet;
 use cil_names::{
-    Known, Lookup, Names as DeclaredNames, Numbering, Sections, Shared, Words, commons_of, declare,
-    numbered, permissions_of,
+    Lookup, Names as DeclaredNames, Shared, Words, commons_of, declare, permissions_of,
 };
 use cil_optionals::{
     Chosen, OptionalLine, Reason, WhyLine, greatest_of, optional_lines, why_lines,

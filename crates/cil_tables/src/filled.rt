@@ -6,8 +6,8 @@ ghost use Rattle.cil_classes.specs.Row.{AreOrderlyRows};
 ghost use Rattle.cil_faults.specs.Refusal.{Answers};
 ghost use Rattle.cil_macros.specs.Items.{items_in, namespaces_in};
 ghost use Rattle.cil_names.specs.Entries.{AreOrdered};
-ghost use Rattle.cil_names.specs.Known.{IsKnown, enabled_in, row_in};
-ghost use Rattle.cil_names.specs.Numbers.{AreApart, names_of};
+ghost use Rattle.cil_known.specs.Known.{IsKnown, enabled_in, row_in};
+ghost use Rattle.cil_known.specs.Numbers.{AreApart, names_of};
 ghost use Rattle.cil_names.specs.Rows.{IsTableOf};
 ghost use Rattle.cil_neverallow.specs.NeverFaults.{NeverFault};
 ghost use Rattle.cil_tables.specs.Filled.{IsFilled};
@@ -23,8 +23,8 @@ use crate::tables::{Boolean, Tables};
 use cil_base::Names;
 use cil_classes::{Class, Classes, given_permissions};
 use cil_faults::Failure;
+use cil_known::{Known, Numbering, Sections};
 use cil_macros::Instances;
-use cil_names::{Known, Numbering, Sections};
 use std::alloc::Global;
 
 /// The sections of a table that statements give.

@@ -9,13 +9,14 @@ ghost use Rattle.cil_macros.specs.Items.{item_at, items_in, may_say_lists, says_
 ghost use Rattle.cil_names.specs.Resolves.{is_mapping};
 ghost use Rattle.cil_names.specs.Rows.{IsTableOf};
 ghost use Rattle.cil_tables.specs.Links.{IsLink, JoinsAll, JoinsNothing};
-ghost use Rattle.cil_names.specs.Known.{AreStanding, IsKnown, enabled_in, row_in, set_meant};
+ghost use Rattle.cil_known.specs.Known.{AreStanding, IsKnown, enabled_in, row_in, set_meant};
 ghost use Rattle.cil_tables.specs.Table.{link_cmp};
 
 use crate::holders::Links;
 use cil_base::NoMemory;
+use cil_known::{Known, meaning_at};
 use cil_macros::Instances;
-use cil_names::{Known, Meaning, meaning_at, same_keyword};
+use cil_names::{Meaning, same_keyword};
 use cil_sets::Numbers;
 use cil_syntax::{Keyword, Kind};
 use std::alloc::Global;

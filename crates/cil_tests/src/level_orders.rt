@@ -7,8 +7,8 @@ ghost use Rattle.cil_blocks.specs.Places.{AreStandings, statements_in};
 ghost use Rattle.cil_macros.specs.Items.{items_in, namespaces_in};
 ghost use Rattle.cil_names.specs.declared.entry.Entry.{Entry as AnEntry};
 ghost use Rattle.cil_names.specs.Entries.{AreEntries, is_in};
-ghost use Rattle.cil_names.specs.Known.{IsKnown, enabled_in, row_in};
-ghost use Rattle.cil_names.specs.Numbers.{AreApart, ArePlainNames, names_of};
+ghost use Rattle.cil_known.specs.Known.{IsKnown, enabled_in, row_in};
+ghost use Rattle.cil_known.specs.Numbers.{AreApart, ArePlainNames, names_of};
 ghost use Rattle.cil_names.specs.PermissionWords.{meanings};
 ghost use Rattle.cil_names.specs.Rows.{IsTableOf};
 ghost use Rattle.cil_names.specs.Unresolved.{ArePermissions};
@@ -16,12 +16,11 @@ ghost use Rattle.cil_names.specs.Unresolved.{ArePermissions};
 use crate::growths::show_faults;
 use cil_base::Bytes;
 use cil_blocks::{Spaces, inherit};
+use cil_known::{Known, Sections, numbered};
 use cil_macros::{Instances, expand};
 use cil_mls::{Orders, orders};
 use cil_modset::ModuleSet;
-use cil_names::{
-    Known, Lookup, Names, OptSet, Sections, Words, commons_of, declare, numbered, permissions_of,
-};
+use cil_names::{Lookup, Names, OptSet, Words, commons_of, declare, permissions_of};
 use cil_syntax::{Failure, Program, all_written};
 use cil_text_tests::set_of;
 use cil_words::{asks_of, settled};

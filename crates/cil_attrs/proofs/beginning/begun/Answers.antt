@@ -1,6 +1,6 @@
 use Rattle.std.proofs.Common.{◌<◌, ◌+◌, ◌∙◌, ap, length, arith}
 use Rattle.cil_base.specs.Places.{in_range, longer}
-use Rattle.cil_names.specs.Known.{enabled_in}
+use Rattle.cil_known.specs.Known.{enabled_in}
 use Rattle.cil_attrs.specs.Begun.{begun_as}
 use Rattle.cil_attrs.proofs.BegunLemmas.{one_begun}
 use Rattle.cil_attrs.proofs.beginning.begun.Goals as goal

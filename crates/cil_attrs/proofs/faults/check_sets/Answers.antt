@@ -5,8 +5,8 @@ use Rattle.cil_faults.specs.declared.code.FaultCode.TheVariants as causes
 use Rattle.cil_faults.specs.declared.fault.Fault.{Fault}
 use Rattle.cil_faults.proofs.RefusalLemmas.{answers_alike}
 use Rattle.cil_macros.specs.Items.{items_in}
-use Rattle.cil_names.specs.Known.{enabled_in}
-use Rattle.cil_names.specs.Numbers.{has_section}
+use Rattle.cil_known.specs.Known.{enabled_in}
+use Rattle.cil_known.specs.Numbers.{has_section}
 use Rattle.cil_attrs.specs.SetFaults.{CircularSet, IsItemName, SetFault, TooMany, limit_of}
 use Rattle.cil_attrs.proofs.FaultLemmas.{alias_of_space, attribute_of_space, circular_told, faults_back, faults_there, names_are}
 use Rattle.cil_attrs.proofs.SpaceLemmas.{alias_wanted, attribute_wanted}

@@ -5,7 +5,7 @@ use Rattle.cil_faults.specs.declared.code.FaultCode.TheVariants as causes
 use Rattle.cil_faults.specs.declared.fault.Fault.{Fault}
 use Rattle.cil_macros.specs.Items.{items_in}
 use Rattle.cil_names.specs.declared.entry.Entry.{Entry}
-use Rattle.cil_names.specs.Known.{enabled_in}
+use Rattle.cil_known.specs.Known.{enabled_in}
 use Rattle.cil_attrs.specs.Targets.{AreLast, HasOther, IsToldAmong, IsToldIn}
 use Rattle.cil_attrs.proofs.AliasLemmas.{alias_says, alias_told, alias_within}
 use Rattle.cil_attrs.proofs.SpaceLemmas.{alias_wanted, alias_written}

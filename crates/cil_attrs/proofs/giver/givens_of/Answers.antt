@@ -3,7 +3,7 @@ use Rattle.std.proofs.Common.{refl, ◌<◌, ◌∙◌, ap, length, map, subst, 
 use Rattle.std.proofs.lemmas.Option.{slice_get-map}
 use Rattle.cil_macros.specs.Items.{item_at, items_in}
 use Rattle.cil_macros.proofs.ItemLemmas.{item_there, items_taken}
-use Rattle.cil_names.specs.Known.{row_in}
+use Rattle.cil_known.specs.Known.{row_in}
 use Rattle.cil_attrs.specs.Givers.{AreGifts}
 use Rattle.cil_attrs.proofs.GiverLemmas.{all_gifts, gift_more, no_gifts, none_more}
 use Rattle.cil_attrs.proofs.giver.givens_of.Goals as goal

@@ -1,6 +1,6 @@
 use Rattle.std.proofs.Common.{◌∙◌, ◌&&◌, ◌||◌, ap, false}
 use Rattle.std.specs.Option.{option_map_or}
-use Rattle.cil_names.specs.Spaces.{Sets}
+use Rattle.cil_known.specs.Spaces.{Sets}
 use Rattle.cil_attrs.specs.Holding.{is_kind}
 use Rattle.cil_attrs.proofs.giver.gives.Goals as goal
 

@@ -2,7 +2,7 @@ use Rattle.std.specs.Prelude.{◌&&◌, ◌||◌}
 use Rattle.std.proofs.Common.{◌∙◌, ap, subst, sym}
 use Rattle.cil_syntax.specs.Expressions.{differ}
 use Rattle.cil_names.specs.Unresolved.{terms_with}
-use Rattle.cil_names.proofs.LeafLemmas.{all_leaves, behind_more, behind_none}
+use Rattle.cil_known.proofs.LeafLemmas.{all_leaves, behind_more, behind_none}
 use Rattle.cil_classes.specs.Numbers.{AreNumbered, IsTallied}
 use Rattle.cil_classes.proofs.ValueLemmas.{form_held, leaf_held, name_held, none_tallied, numbered_form, numbered_part, tallied_all, tallied_more}
 use Rattle.cil_classes.proofs.expression.+holds.Goals as goal

@@ -4,7 +4,7 @@ use Rattle.cil_base.specs.Lists.{text_cmp}
 use Rattle.cil_syntax.specs.declared.term.Word.{Word}
 use Rattle.cil_syntax.specs.Scopes.{ScopedWord}
 use Rattle.cil_names.specs.Unresolved.{terms_with}
-use Rattle.cil_names.proofs.LeafLemmas.{all_leaves}
+use Rattle.cil_known.proofs.LeafLemmas.{all_leaves}
 use Rattle.cil_classes.specs.Numbers.{AreNumbered, IsTally}
 use Rattle.cil_classes.proofs.expression.+holds.Given as goal
 

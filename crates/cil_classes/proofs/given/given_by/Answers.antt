@@ -2,7 +2,7 @@ use Rattle.std.proofs.Common.{ap, length, refl}
 use Rattle.cil_base.proofs.AtPlace.{at_place, past_end}
 use Rattle.cil_syntax.specs.Said.{said_of}
 use Rattle.cil_syntax.specs.declared.kind.Kind.TheVariants as kinds
-use Rattle.cil_names.specs.Known.{enabled_in}
+use Rattle.cil_known.specs.Known.{enabled_in}
 use Rattle.cil_classes.proofs.GivenLemmas.{always_a_row, class_means, empty_mask, gives_nothing, is_given, its_mask, nothing_listed, without_class}
 use Rattle.cil_classes.proofs.given.given_by.Goals as goal
 

@@ -4,7 +4,7 @@ use Rattle.std.proofs.lemmas.Option.{slice_get-map}
 use Rattle.cil_base.specs.Places.{get_contains}
 use Rattle.cil_macros.specs.Items.{item_at, items_in}
 use Rattle.cil_macros.proofs.ItemLemmas.{item_there, items_taken}
-use Rattle.cil_names.specs.Known.{row_in}
+use Rattle.cil_known.specs.Known.{row_in}
 use Rattle.cil_base.proofs.RecordLemmas.{all_records, none_more, record_more}
 use Rattle.std.proofs.lemmas.Result.{IfOk-from_err}
 use Rattle.cil_classes.proofs.givens.givens_of.Goals as goal

@@ -3,8 +3,8 @@ use Rattle.cil_base.specs.Records.{AreRecordsOf}
 use Rattle.cil_syntax.specs.declared.kind.Kind.{Kind}
 use Rattle.cil_syntax.specs.declared.kind.Kind.TheVariants as kinds
 use Rattle.cil_macros.specs.Items.{items_in}
-use Rattle.cil_names.specs.Known.{IsKnown, enabled_in}
-use Rattle.cil_names.specs.Numbers.{AreApart}
+use Rattle.cil_known.specs.Known.{IsKnown, enabled_in}
+use Rattle.cil_known.specs.Numbers.{AreApart}
 use Rattle.cil_classes.specs.ClassRows.{AreClasses}
 use Rattle.cil_classes.specs.Givings.{GivesTo, HaveNodes, IsGivenFor}
 use Rattle.cil_classes.specs.Parts.{AreNodes}

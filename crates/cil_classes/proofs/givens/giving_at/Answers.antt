@@ -5,7 +5,7 @@ use Rattle.cil_macros.specs.Items.{item_at, may_say_lists, says_as_written, word
 use Rattle.cil_macros.specs.ListTerms.{all_spotless}
 use Rattle.cil_macros.proofs.FormLemmas.{all_across}
 use Rattle.cil_macros.proofs.ItemsThere.{keyword_there, named_there}
-use Rattle.cil_names.specs.Known.{enabled_in}
+use Rattle.cil_known.specs.Known.{enabled_in}
 use Rattle.cil_classes.proofs.AlikeLemmas.{itself_there}
 use Rattle.cil_classes.proofs.GivingLemmas.{not_enabled, other_statement}
 use Rattle.cil_classes.proofs.givens.giving_at.Goals as goal

@@ -3,7 +3,7 @@ use Rattle.std.proofs.Common.{◌<◌, ◌≤◌, ◌∙◌, ap, length, map, ar
 use Rattle.std.proofs.lemmas.Option.{slice_get-map}
 use Rattle.cil_macros.specs.Items.{item_at, items_in}
 use Rattle.cil_macros.proofs.ItemLemmas.{item_there, items_taken}
-use Rattle.cil_names.specs.Known.{row_in}
+use Rattle.cil_known.specs.Known.{row_in}
 use Rattle.cil_base.proofs.RecordLemmas.{all_records, none_more, record_more}
 use Rattle.std.proofs.lemmas.Result.{IfOk-from_err}
 use Rattle.cil_classes.proofs.givens.unsorted.Goals as goal

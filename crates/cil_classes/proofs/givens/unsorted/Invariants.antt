@@ -2,7 +2,7 @@ use Rattle.std.specs.Prelude.{ℕ, List, take}
 use Rattle.cil_base.specs.Records.{AreRecordsOf}
 use Rattle.cil_syntax.specs.declared.kind.Kind.{Kind}
 use Rattle.cil_macros.specs.Items.{items_in}
-use Rattle.cil_names.specs.Known.{IsKnown, enabled_in}
+use Rattle.cil_known.specs.Known.{IsKnown, enabled_in}
 use Rattle.cil_classes.specs.Givings.{GivesTo, IsNodeFor}
 use Rattle.cil_classes.proofs.givens.unsorted.Given as goal
 

@@ -2,7 +2,7 @@ use Rattle.std.specs.Prelude.{All}
 use Rattle.std.proofs.Common.{length, refl, subst, sym, ◌∙◌}
 use Rattle.cil_base.specs.Records.{AreRecordsOf}
 use Rattle.cil_macros.specs.Items.{items_in}
-use Rattle.cil_names.specs.Known.{enabled_in}
+use Rattle.cil_known.specs.Known.{enabled_in}
 use Rattle.std.proofs.lemmas.Result.{IfOk-from_err}
 use Rattle.cil_classes.specs.Assigned.{IsWithin}
 use Rattle.cil_classes.specs.Givings.{GivesTo, HaveNodes, IsGivenFor}

@@ -1,6 +1,6 @@
 use Rattle.std.proofs.Common.{sym, ◌∙◌}
 use Rattle.cil_base.proofs.AtPlace.{at_place, past_end}
-use Rattle.cil_names.proofs.StandLemmas.{of_no_entry, of_nothing, of_other_kind}
+use Rattle.cil_known.proofs.StandLemmas.{of_no_entry, of_nothing, of_other_kind}
 use Rattle.cil_classes.proofs.EntryForLemmas.{entry_is}
 use Rattle.cil_classes.proofs.parts.entry_of.Goals as goal
 

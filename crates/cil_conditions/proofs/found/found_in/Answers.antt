@@ -3,7 +3,7 @@ use Rattle.std.proofs.Common.{◌≡◌, ◌<◌, ◌∙◌, ap, length, map, ar
 use Rattle.std.proofs.lemmas.Option.{slice_get-map}
 use Rattle.cil_macros.specs.Items.{item_at, items_in}
 use Rattle.cil_macros.proofs.ItemLemmas.{item_there}
-use Rattle.cil_names.specs.Known.{row_in}
+use Rattle.cil_known.specs.Known.{row_in}
 use Rattle.cil_conditions.specs.Gathered.{AreFound}
 use Rattle.cil_conditions.proofs.FoundLemmas.{nothing_found}
 use Rattle.cil_conditions.proofs.found.found_in.Goals as goal

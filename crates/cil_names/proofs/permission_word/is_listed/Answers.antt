@@ -1,5 +1,5 @@
 use Rattle.std.proofs.Common.{◌∙◌}
-use Rattle.cil_names.proofs.NumberLemmas.{is_listed_by}
+use Rattle.cil_names.proofs.NamePlaceLemmas.{is_listed_by}
 use Rattle.cil_names.proofs.permission_word.is_listed.Goals as goal
 
 pub returns : goal.returns

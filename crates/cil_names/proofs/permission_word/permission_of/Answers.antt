@@ -4,7 +4,7 @@ use Rattle.cil_names.specs.Classes.{IsClassFor}
 use Rattle.cil_names.specs.Meanings.{meant}
 use Rattle.cil_names.specs.PermissionWords.{has_permission_at, number_among}
 use Rattle.cil_macros.specs.Item.{nobody}
-use Rattle.cil_names.proofs.NumberLemmas.{is_listed_by}
+use Rattle.cil_names.proofs.NamePlaceLemmas.{is_listed_by}
 use Rattle.cil_names.proofs.PermissionNumberLemmas.{no_number_with, number_there_with}
 use Rattle.cil_names.proofs.PermissionWordLemmas.{class_has, class_lacks}
 use Rattle.cil_names.proofs.permission_word.permission_of.Goals as goal

@@ -2,7 +2,7 @@ use Rattle.std.proofs.Common.{◌≡◌, ◌++◌, ap, map, refl, subst, sym, �
 use Rattle.cil_syntax.specs.declared.kind.Kind.TheVariants as kinds
 use Rattle.cil_syntax.specs.Said.{args_of, said_of}
 use Rattle.cil_macros.proofs.FormLemmas.{all_across}
-use Rattle.cil_names.specs.Known.{enabled_in, value_in}
+use Rattle.cil_known.specs.Known.{enabled_in, value_in}
 use Rattle.cil_names.specs.Resolves.{is_mapping}
 use Rattle.cil_names.specs.Unresolved.{term_with}
 use Rattle.cil_names.proofs.ReadingLemmas.{plain_said}

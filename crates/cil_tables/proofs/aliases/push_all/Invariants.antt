@@ -1,5 +1,5 @@
 use Rattle.std.specs.Prelude.{◌≡◌, ◌++◌, map, take}
-use Rattle.cil_names.specs.Numbers.{spelled_of}
+use Rattle.cil_known.specs.Numbers.{spelled_of}
 use Rattle.cil_tables.specs.AliasRows.{alias_to}
 use Rattle.cil_tables.proofs.aliases.push_all.Given as goal
 

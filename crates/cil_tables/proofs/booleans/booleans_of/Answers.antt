@@ -1,7 +1,7 @@
 use Rattle.std.proofs.Common.{List, ℕ, subst}
 use Rattle.std.specs.Prelude.{◌≡◌, ◌↔◌, Contains, true}
 use Rattle.cil_macros.specs.Items.{items_in}
-use Rattle.cil_names.specs.Known.{enabled_in}
+use Rattle.cil_known.specs.Known.{enabled_in}
 use Rattle.cil_tables.specs.Booleans.{is_default_on}
 use Rattle.cil_tables.proofs.BooleanLemmas.{same_tests}
 use Rattle.cil_tables.proofs.booleans.booleans_of.Goals as goal

@@ -3,7 +3,7 @@ use Rattle.cil_faults.specs.Namespaces.{qualified}
 use Rattle.cil_blocks.specs.Namespaces.{space_at}
 use Rattle.cil_macros.specs.Items.{item_at, word_at}
 use Rattle.cil_macros.proofs.ItemsThere.{keyword_there, named_there}
-use Rattle.cil_names.specs.Known.{enabled_in}
+use Rattle.cil_known.specs.Known.{enabled_in}
 use Rattle.cil_syntax.specs.Said.{all_said}
 use Rattle.cil_tables.specs.Booleans.{is_boolean, named_on}
 use Rattle.cil_tables.proofs.BooleanLemmas.{boolean_as_written, boolean_named, named_across, not_enabled, other_statement, says_no, says_yes}

@@ -2,7 +2,7 @@ use Rattle.std.proofs.Common.{◌<◌, ◌≤◌, length, arith, subst, sym}
 use Rattle.std.proofs.Common.{take}
 use Rattle.cil_macros.specs.Items.{item_at, items_in}
 use Rattle.cil_macros.proofs.ItemLemmas.{items_taken}
-use Rattle.cil_names.specs.Known.{enabled_in}
+use Rattle.cil_known.specs.Known.{enabled_in}
 use Rattle.cil_tables.proofs.BooleanLemmas.{AreOn, on_all, on_more, on_none}
 use Rattle.cil_tables.proofs.booleans.unsorted.Goals as goal
 

@@ -1,6 +1,6 @@
 use Rattle.std.specs.Prelude.{take}
 use Rattle.cil_macros.specs.Items.{items_in}
-use Rattle.cil_names.specs.Known.{enabled_in}
+use Rattle.cil_known.specs.Known.{enabled_in}
 use Rattle.cil_tables.proofs.BooleanLemmas.{AreOn}
 use Rattle.cil_tables.proofs.booleans.unsorted.Given as goal
 

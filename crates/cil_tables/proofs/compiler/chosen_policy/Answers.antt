@@ -3,7 +3,7 @@ use Rattle.cil_blocks.specs.declared.namespaces.Space.{Space}
 use Rattle.cil_faults.specs.declared.failure.Failure.TheVariants.{NoMemory}
 use Rattle.cil_macros.specs.Items.{items_in}
 use Rattle.cil_names.specs.Entries.{AreEntries, is_in}
-use Rattle.cil_names.specs.Numbers.{ArePlainNames}
+use Rattle.cil_known.specs.Numbers.{ArePlainNames}
 use Rattle.cil_names.specs.PermissionWords.{meanings}
 use Rattle.cil_names.specs.Rows.{IsTableOf}
 use Rattle.cil_names.specs.Unresolved.{ArePermissions}

@@ -5,8 +5,8 @@ use Rattle.cil_tables.specs.Table.{most_booleans}
 use Rattle.cil_base.specs.Lists.{Lists, text_cmp}
 use Rattle.cil_syntax.specs.declared.kind.Kind.TheVariants as kinds
 use Rattle.cil_macros.specs.Items.{items_in}
-use Rattle.cil_names.specs.Known.{enabled_in}
-use Rattle.cil_names.specs.Numbers.{AreApart}
+use Rattle.cil_known.specs.Known.{enabled_in}
+use Rattle.cil_known.specs.Numbers.{AreApart}
 use Rattle.cil_tables.specs.Named.{IsNameOf}
 use Rattle.cil_faults.proofs.BothLemmas.{answers_both}
 use Rattle.cil_tables.proofs.NamedLemmas.{names_are}

@@ -5,13 +5,13 @@ use Rattle.cil_base.specs.Lists.{text_cmp}
 use Rattle.cil_syntax.specs.declared.kind.Kind.TheVariants as kinds
 use Rattle.cil_macros.specs.Items.{items_in}
 use Rattle.cil_names.specs.Entries.{is_in}
-use Rattle.cil_names.specs.Numbers.{AreApart, AreNumbers, names_of}
+use Rattle.cil_known.specs.Numbers.{AreApart, AreNumbers, names_of}
 use Rattle.cil_classes.specs.declared.row.Class.{Class}
 use Rattle.cil_tables.specs.Compiled.{AreRules, IsTable}
 use Rattle.cil_tables.specs.declared.tables.Boolean.{Boolean}
 use Rattle.cil_classes.specs.ClassRows.{AreClasses}
 use Rattle.cil_classes.specs.Row.{AreOrderlyRows}
-use Rattle.cil_names.specs.Known.{AreKnown}
+use Rattle.cil_known.specs.Known.{AreKnown}
 use Rattle.cil_tables.specs.CompileRefusal.{LaterFail}
 use Rattle.cil_tables.proofs.CompileLemmas.{forbidden_fail, handed_on}
 use Rattle.cil_tables.proofs.JoinLemmas.{table_of}

@@ -1,6 +1,6 @@
 use Rattle.std.proofs.Common.{sym, ◌∙◌}
 use Rattle.cil_faults.proofs.RefusalLemmas.{refused}
-use Rattle.cil_names.specs.Numbers.{names_of}
+use Rattle.cil_known.specs.Numbers.{names_of}
 use Rattle.cil_tables.proofs.filled.fill_sections.Goals as goal
 
 pub given_permissions-requires-clause-known : goal.given_permissions-requires-clause-known

@@ -1,7 +1,7 @@
 use Rattle.std.proofs.Common.{subst, sym}
 use Rattle.cil_syntax.specs.declared.kind.Kind.TheVariants as kinds
 use Rattle.cil_macros.specs.Items.{items_in}
-use Rattle.cil_names.specs.Known.{AreStanding}
+use Rattle.cil_known.specs.Known.{AreStanding}
 use Rattle.cil_tables.proofs.forbidden.check_forbidden.Goals as goal
 
 pub returns : goal.returns

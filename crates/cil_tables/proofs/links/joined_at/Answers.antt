@@ -5,7 +5,7 @@ use Rattle.cil_base.specs.Lists.{Lists}
 use Rattle.cil_syntax.specs.Said.{args_of}
 use Rattle.cil_macros.specs.Items.{item_at, may_say_lists, says_as_written, word_at}
 use Rattle.cil_macros.proofs.ItemsThere.{keyword_there, named_there}
-use Rattle.cil_names.specs.Known.{HasNumberFor, enabled_in, meant_in, set_meant, value_in}
+use Rattle.cil_known.specs.Known.{HasNumberFor, enabled_in, meant_in, set_meant, value_in}
 use Rattle.cil_names.specs.Resolves.{is_mapping}
 use Rattle.cil_names.proofs.ReadingLemmas.{plain_said}
 use Rattle.cil_tables.proofs.LinkLemmas.{first_means, joins_all, left_out, no_held, no_holder, other_keyword, other_terms, second_means}

@@ -5,7 +5,7 @@ use Rattle.std.proofs.lemmas.Option.{slice_get-map}
 use Rattle.cil_macros.specs.Item.{Item}
 use Rattle.cil_macros.specs.Items.{item_at, items_in}
 use Rattle.cil_macros.proofs.ItemLemmas.{item_there, items_taken}
-use Rattle.cil_names.specs.Known.{enabled_in, row_in}
+use Rattle.cil_known.specs.Known.{enabled_in, row_in}
 use Rattle.cil_tables.specs.Links.{AreJoinedBy}
 use Rattle.cil_tables.proofs.HolderLemmas.{no_links}
 use Rattle.cil_tables.proofs.LinkLemmas.{joined_more, links_listed, none_joined, nothing_more}

@@ -2,7 +2,7 @@ use Rattle.std.specs.Prelude.{ℕ, List, take}
 use Rattle.std.specs.List.Sorted.{IsStrictlySortedBy}
 use Rattle.cil_syntax.specs.declared.kind.Kind.{Kind}
 use Rattle.cil_macros.specs.Items.{items_in}
-use Rattle.cil_names.specs.Known.{AreStanding, IsKnown, enabled_in}
+use Rattle.cil_known.specs.Known.{AreStanding, IsKnown, enabled_in}
 use Rattle.cil_tables.specs.Links.{AreJoinedBy}
 use Rattle.cil_tables.specs.Table.{link_cmp}
 use Rattle.cil_tables.proofs.links.links_of.Given as goal

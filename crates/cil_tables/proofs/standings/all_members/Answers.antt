@@ -1,9 +1,9 @@
 use Rattle.std.specs.Prelude.{Ok, Err}
 use Rattle.std.proofs.Common.{sym}
 use Rattle.cil_syntax.specs.declared.kind.Kind.TheVariants as kinds
-use Rattle.cil_names.specs.Members.{space_of}
-use Rattle.cil_names.specs.Numbers.{names_of}
-use Rattle.cil_names.specs.Known.{enabled_in}
+use Rattle.cil_known.specs.Members.{space_of}
+use Rattle.cil_known.specs.Numbers.{names_of}
+use Rattle.cil_known.specs.Known.{enabled_in}
 use Rattle.cil_faults.proofs.RefusalLemmas.{refused}
 use Rattle.cil_macros.specs.Items.{items_in}
 use Rattle.cil_tables.specs.SetsStep.{MembersFault}

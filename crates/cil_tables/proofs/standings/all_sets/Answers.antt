@@ -1,7 +1,7 @@
 use Rattle.std.proofs.Common.{◌≡◌, length, refl, subst, sym, arith}
 use Rattle.cil_syntax.specs.declared.kind.Kind.TheVariants as kinds
-use Rattle.cil_names.specs.Members.{space_of}
-use Rattle.cil_names.specs.Numbers.{names_of}
+use Rattle.cil_known.specs.Members.{space_of}
+use Rattle.cil_known.specs.Numbers.{names_of}
 use Rattle.cil_attrs.specs.Members.{AreMembers}
 use Rattle.cil_tables.proofs.standings.all_sets.Goals as goal
 

@@ -1,8 +1,8 @@
 use Rattle.std.proofs.Common.{subst, sym}
 use Rattle.cil_macros.specs.Items.{items_in}
 use Rattle.cil_names.specs.Entries.{is_in}
-use Rattle.cil_names.specs.Known.{AreKnown}
-use Rattle.cil_names.specs.Numbers.{AreApart, AreNumbers, names_of}
+use Rattle.cil_known.specs.Known.{AreKnown}
+use Rattle.cil_known.specs.Numbers.{AreApart, AreNumbers, names_of}
 use Rattle.cil_tests.proofs.level_orders.show_looked_up.Goals as goal
 
 pub show_orders-requires-clause-namespaces : goal.show_orders-requires-clause-namespaces

@@ -2,7 +2,7 @@ use Rattle.std.proofs.Common.{List, map, subst, sym}
 use Rattle.cil_blocks.specs.declared.namespaces.Space.{Space}
 use Rattle.cil_macros.specs.Items.{items_in}
 use Rattle.cil_names.specs.Entries.{AreEntries, is_in}
-use Rattle.cil_names.specs.Numbers.{ArePlainNames}
+use Rattle.cil_known.specs.Numbers.{ArePlainNames}
 use Rattle.cil_names.specs.PermissionWords.{meanings}
 use Rattle.cil_names.specs.Rows.{IsTableOf}
 use Rattle.cil_names.specs.Unresolved.{ArePermissions}

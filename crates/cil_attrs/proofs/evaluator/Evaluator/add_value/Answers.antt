@@ -1,7 +1,7 @@
 use Rattle.std.proofs.Common.{◌∙◌, ◌||◌, ap}
 use Rattle.cil_base.specs.Among.{among}
 use Rattle.cil_syntax.specs.Said.{said_of}
-use Rattle.cil_names.specs.Known.{meant_in}
+use Rattle.cil_known.specs.Known.{meant_in}
 use Rattle.cil_attrs.proofs.HoldingLemmas.{value_as_family}
 use Rattle.cil_attrs.proofs.evaluator.Evaluator.add_value.Goals as goal
 

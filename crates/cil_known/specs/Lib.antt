@@ -1,0 +1,7 @@
+pub mod Family
+pub mod Known
+pub mod MemberLaws
+pub mod Members
+pub mod Numbers
+pub mod Says
+pub mod Spaces
