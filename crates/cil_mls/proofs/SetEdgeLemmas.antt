@@ -5,7 +5,7 @@ use Rattle.std.proofs.Common.{◌≡◌, ◌↔◌, ◌⊎◌, ℕ, ◌+◌, ◌
 use Rattle.std.proofs.lemmas.Bool.{true≢false}
 use Rattle.std.proofs.lemmas.List.{take_all}
 use Rattle.std.proofs.lemmas.List.Sorted.{Contains-permutation, IsPermutation-sym}
-use Rattle.std.proofs.lemmas.Option.{same_Some}
+use Rattle.std.proofs.lemmas.Option.{none-some, same_Some}
 use Rattle.std.proofs.lemmas.Simd.{map-map}
 use Rattle.cil_base.specs.Lists.{contains_none}
 use Rattle.cil_base.specs.MadeLists.{contains_map, from_map}
@@ -50,7 +50,7 @@ use Rattle.cil_attrs.proofs.MembersLemmas.{same_self}
 use Rattle.cil_mls.specs.CategorySets.{CircularSet, DependsOn, NamesSet, at_once, further}
 use Rattle.cil_mls.specs.Pairs.{LeadMore}
 use Rattle.cil_mls.specs.SetEdges.{AreCircularSets, DeclaresJust, DeclaresNone, DeclaresSet, IsSetEdge, IsSetEdgeIn, is_set, is_set_at, is_set_kind}
-use Rattle.cil_mls.proofs.PairLemmas.{lead_as, no_more, taken_more, then_more}
+use Rattle.cil_mls.proofs.PairLemmas.{lead_as, no_more, one_edge, taken_more, then_more}
 
 -- ---- the words of one statement
 
@@ -79,6 +79,22 @@ module _ (es : List Entry) (set : ℕ) where
 
   pub all_words : (row : List (Option ℕ)) (i : ℕ) → length row ≤ i → (old new : List Edge) → LeadMore old new (LeadsTo (take i row)) → LeadMore old new (LeadsTo row)
   all_words row i over old new more = subst (λ r. LeadMore old new (LeadsTo r)) (take_all i row over) more
+
+-- one word
+module _ (es : List Entry) (set : ℕ) (meaning : Option ℕ) (old : List Edge) where
+  pub no_meaning : meaning ≡ None → LeadMore old old (LeadsBy es set meaning)
+  no_meaning none = no_more old (LeadsBy es set meaning) (λ a b h. none-some b (sym none ∙ h.1))
+
+  module _ (to : ℕ) (means : meaning ≡ Some to) where
+    pub no_set : is_set_at es to ≡ false → LeadMore old old (LeadsBy es set meaning)
+    no_set none = no_more old (LeadsBy es set meaning) (λ a b h. true≢false (sym h.2 ∙ ap (is_set_at es) (same_Some b to (sym h.1 ∙ means)) ∙ none))
+
+    pub one_set : is_set_at es to ≡ true → (new : List Edge) → new ≡ old ++ record { from = set; to = to; counted = false } ∷ [] → LeadMore old new (LeadsBy es set meaning)
+    one_set is new push =
+        lead_as old new (λ a b. (a ≡ set) × (to ≡ b)) (LeadsBy es set meaning) (λ a b. (
+          λ h. (h.0, means ∙ ap Some h.1, subst (λ z. is_set_at es z ≡ true) h.1 is),
+          λ h. (h.0, same_Some to b (sym means ∙ h.1)),
+        )) (one_edge old new (record { from = set; to = to; counted = false }) push)
 
 -- ---- the set that a statement declares
 

@@ -78,6 +78,14 @@ switch_is on (cons (Form at op nil) nil) e = (at, λ i. cons (Form at (word_is o
 switch_is on (cons (Form at op (cons t ts)) nil) e = absurd (true≢false (sym e))
 switch_is on (cons t (cons u ts)) e = absurd (true≢false (sym e))
 
+-- the parts of the test
+pub no_switch : (mls enabled says : Bool) → enabled ≡ false → (mls && (enabled && says)) ≡ false
+no_switch true enabled says e = ap (λ b. b && says) e
+no_switch false enabled says e = refl
+
+pub switches_so : (mls enabled says : Bool) → mls ≡ true → enabled ≡ true → (mls && (enabled && says)) ≡ says
+switches_so mls enabled says m e = ap (λ b. b && (enabled && says)) m ∙ ap (λ b. b && says) e
+
 -- a statement for which the test says yes turns levels on, or off
 pub switched : (xs : List Item) (s : OptSet) (on : Bool) (x : Item) → Contains xs x → switches s on x ≡ true → Switches xs s on
 switched xs s on x is e =
