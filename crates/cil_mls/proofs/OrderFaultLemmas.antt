@@ -1,14 +1,13 @@
 -- What is wrong with orders, part by part and together.
-use Rattle.std.specs.Prelude.{Contains, MatchOption, Option, Some, None, Result, Ok, Err, codes}
+use Rattle.std.specs.Prelude.{Contains, MatchOption, Option, Some, None, Result, Ok, Err}
 use Rattle.std.specs.Global.{Vec}
-use Rattle.std.proofs.Common.{◌≡◌, ◌↔◌, ◌⊎◌, ℕ, ◌<◌, ◌≤◌, Bool, true, false, List, [], ◌∷◌, ◌++◌, length, refl, sym, ◌∙◌, ap, subst, inl, inr, arith}
+use Rattle.std.proofs.Common.{◌≡◌, ◌↔◌, ℕ, ◌<◌, ◌≤◌, Bool, true, false, List, [], ◌∷◌, ◌++◌, length, refl, sym, ◌∙◌, ap, subst, inl, inr, arith}
 use Rattle.std.proofs.lemmas.Bool.{true≢false}
 use Rattle.std.proofs.lemmas.Cmp.{nat_list_cmp_total}
 use Rattle.cil_base.specs.Lists.{Lists, contains_cases, contains_here, contains_none, one_list, text_cmp}
 use Rattle.cil_faults.specs.Fails.{AreFaults}
 use Rattle.cil_faults.specs.Refusal.{Answers, Fails}
 use Rattle.cil_faults.specs.Reported.{global_fault}
-use Rattle.cil_faults.specs.declared.both.Both.{Both}
 use Rattle.cil_faults.specs.declared.code.FaultCode.{FaultCode}
 use Rattle.cil_faults.specs.declared.code.FaultCode.TheVariants as causes
 use Rattle.cil_faults.specs.declared.failure.Failure.{Failure}
@@ -16,15 +15,13 @@ use Rattle.cil_faults.specs.declared.failure.Failure.TheVariants.{Faults, NoMemo
 use Rattle.cil_faults.specs.declared.fault.Fault.{Fault}
 use Rattle.cil_faults.proofs.RefusalLemmas.{fails_alike, faults_alike}
 use Rattle.cil_syntax.specs.declared.kind.Keyword.{Keyword}
-use Rattle.cil_syntax.specs.declared.kind.Keyword.TheVariants as keywords
 use Rattle.cil_syntax.specs.declared.kind.Kind.{Kind}
-use Rattle.cil_syntax.specs.declared.kind.Kind.TheVariants as kinds
 use Rattle.cil_macros.specs.Item.{Item, OptSet}
 use Rattle.cil_names.specs.Declarations.{nowhere}
 use Rattle.cil_known.specs.Members.{space_of}
 use Rattle.cil_attrs.specs.SetFaults.{IsItemName, SetFault}
 use Rattle.cil_mls.specs.Ordering.{HasNoOrder, IsNumberedOrder}
-use Rattle.cil_mls.specs.OrderFaults.{AreOver, IsUnordered, OrderFault, Switches, alias_of_category, alias_of_sensitivity, categories_unordered, circular_set, many_categories, many_sensitivities, mls_twice, sensitivities_unordered}
+use Rattle.cil_mls.specs.OrderFaults.{IsUnordered, OrderFault, Switches, alias_of_category, alias_of_sensitivity, categories_unordered, circular_set, many_categories, many_sensitivities, mls_twice, sensitivities_unordered}
 use Rattle.cil_mls.specs.OrderParts.{IsOn, IsOrderOf, JudgedFault, MlsTwice, SpaceFault}
 use Rattle.cil_mls.specs.PolicyFaults.{IsOrdered, IsOver}
 
@@ -76,10 +73,10 @@ module _ (xs : List Item) (s : OptSet) (kind : Kind) (order : Keyword) (code : F
 
 module _ (xs : List Item) (s : OptSet) (on off : Bool) (is_on : (on ≡ true) ↔ Switches xs s true) (is_off : (off ≡ true) ↔ Switches xs s false) where
   pub both_told : on ≡ true → off ≡ true → (failure : Failure) → Fails (λ f. f ≡ global_fault causes.MlsTwice nowhere []) failure → Fails (MlsTwice xs s) failure
-  both_told yes no failure told = fails_alike (λ f. f ≡ global_fault causes.MlsTwice nowhere []) (MlsTwice xs s) (λ f is. ((is_on.0 yes, is_off.0 no), is)) (λ f t. t.1) failure told
+  both_told is_yes is_no failure told = fails_alike (λ f. f ≡ global_fault causes.MlsTwice nowhere []) (MlsTwice xs s) (λ f is. ((is_on.0 is_yes, is_off.0 is_no), is)) (λ f t. t.1) failure told
 
   pub only_on : on ≡ true → off ≡ false → IsOn xs s true × ((f : Fault) → MlsTwice xs s f → ⊥)
-  only_on yes none = (((λ e. is_on.0 yes), λ w. refl), λ f t. true≢false (sym (is_off.1 t.0.1) ∙ none))
+  only_on is_yes none = (((λ e. is_on.0 is_yes), λ w. refl), λ f t. true≢false (sym (is_off.1 t.0.1) ∙ none))
 
 pub not_on : (xs : List Item) (s : OptSet) (on : Bool) → (on ≡ true) ↔ Switches xs s true → on ≡ false → IsOn xs s false × ((f : Fault) → MlsTwice xs s f → ⊥)
 not_on xs s on is_on none = (((λ e. absurd (true≢false (sym e))), λ w. absurd (true≢false (sym (is_on.1 w) ∙ none))), λ f t. true≢false (sym (is_on.1 t.0.0) ∙ none))
@@ -104,7 +101,7 @@ module _ (xs : List Item) (s : OptSet) (f : Fault) where
   judged_back (alias_of_category t) = inl (inr (inl t))
   judged_back (sensitivities_unordered u is) = inl (inl (inr (u, is)))
   judged_back (categories_unordered u is) = inl (inr (inr (u, is)))
-  judged_back (mls_twice yes no is) = inr (inl ((yes, no), is))
+  judged_back (mls_twice on off is) = inr (inl ((on, off), is))
   judged_back (many_sensitivities m is) = inr (inr (inl (inl (m, is))))
   judged_back (many_categories m is) = inr (inr (inl (inr (m, is))))
   judged_back (circular_set c) = inr (inr (inr c))

@@ -1,6 +1,6 @@
 -- What mls statements say, by their terms.
 use Rattle.std.specs.Prelude.{Contains, take}
-use Rattle.std.proofs.Common.{◌≡◌, ◌↔◌, ◌⊎◌, ℕ, ◌+◌, ◌<◌, ◌≤◌, Bool, true, false, ◌&&◌, List, [], ◌∷◌, ◌++◌, length, refl, sym, ◌∙◌, ap, subst, inl, inr}
+use Rattle.std.proofs.Common.{◌≡◌, ℕ, ◌+◌, ◌≤◌, Bool, true, false, ◌&&◌, List, [], ◌∷◌, ◌++◌, length, refl, sym, ◌∙◌, ap, subst, inl, inr, arith}
 use Rattle.std.proofs.lemmas.Bool.{and_from, and_parts, true≢false}
 use Rattle.std.proofs.lemmas.List.{take_all}
 use Rattle.std.specs.declared.alloc.Global.{Global}
@@ -15,7 +15,7 @@ use Rattle.cil_syntax.specs.declared.term.Term as rust
 use Rattle.cil_syntax.specs.declared.term.Term.TheVariants as variants
 use Rattle.cil_syntax.specs.Said.{all_said, said_of}
 use Rattle.cil_syntax.proofs.SaidLemmas.{form_said}
-use Rattle.cil_syntax.specs.Terms.{Term, Leaf, Name, Form, Terms, nil, cons}
+use Rattle.cil_syntax.specs.Terms.{Leaf, Name, Form, Terms, nil, cons}
 use Rattle.cil_macros.specs.Item.{Item, OptSet, all_replaced, is_enabled}
 use Rattle.cil_macros.specs.Items.{may_say_lists, says_as_written}
 use Rattle.cil_mls.specs.OrderFaults.{Switches, switch_word}
@@ -33,6 +33,10 @@ module _ (m : ℕ) (on : Bool) where
   pub form_is : (t : rust.Term) (op : Op) (at : ℕ) (terms : Vec rust.Term Global) → t ≡ variants.Form op at terms
       → is_switch_term on (said_of m t) ≡ (is_bare (all_said m terms.items) && is_switch_word on op)
   form_is t op at terms is = ap (is_switch_term on) (ap (said_of m) is ∙ form_said m at op terms)
+
+  pub some_parts : (ts : List rust.Term) → 1 ≤ length ts → is_bare (all_said m ts) ≡ false
+  some_parts [] some = absurd (omega (arith, some))
+  some_parts (t ∷ ts) some = refl
 
 -- what words say has no part in it
 pub switch_replaced : {L M : Type 0} (g : Spot → Spot) (f : L → M) (on : Bool) (ts : Terms L) → is_switch on (all_replaced g f ts) ≡ is_switch on ts

@@ -3,7 +3,6 @@
 use Rattle.std.specs.Prelude.{◌≡◌, ◌↔◌, ◌<◌, ◌≤◌, ℕ, Bool, true, false, List, [], codes, length}
 use Rattle.cil_base.specs.Lists.{Lists, text_cmp}
 use Rattle.cil_faults.specs.Reported.{global_fault}
-use Rattle.cil_faults.specs.declared.code.FaultCode.{FaultCode}
 use Rattle.cil_faults.specs.declared.code.FaultCode.TheVariants as causes
 use Rattle.cil_faults.specs.declared.fault.Fault.{Fault}
 use Rattle.cil_faults.specs.declared.spot.Spot.{Spot}
@@ -19,7 +18,7 @@ use Rattle.cil_names.specs.Declarations.{nowhere}
 use Rattle.cil_known.specs.Members.{space_of}
 use Rattle.cil_known.specs.Says.{Says}
 use Rattle.cil_attrs.specs.SetFaults.{IsItemName, SetFault}
-use Rattle.cil_mls.specs.declared.ordered.Orders.{Orders}
+use Rattle.cil_mls.specs.declared.in_order.Orders.{Orders}
 use Rattle.cil_mls.specs.CategorySets.{CircularSet}
 use Rattle.cil_mls.specs.Ordering.{HasNoOrder, IsNumberedOrder}
 

@@ -1,5 +1,5 @@
 -- What is judged of sensitivities and categories, part by part. No other crate needs these words.
-use Rattle.std.specs.Prelude.{◌≡◌, ◌↔◌, ◌⊎◌, ◌≤◌, ℕ, Bool, true, List, [], codes, length, Result}
+use Rattle.std.specs.Prelude.{◌≡◌, ◌↔◌, ◌⊎◌, ◌≤◌, ℕ, Bool, true, false, List, [], codes, length, Result}
 use Rattle.std.specs.Global.{Vec}
 use Rattle.cil_base.specs.Lists.{Lists, text_cmp}
 use Rattle.cil_faults.specs.Refusal.{Answers}

@@ -1,6 +1,6 @@
 //! Sets of categories that depend on themselves.
 
-ghost use Rattle.std.specs.Prelude.{◌≡◌, ◌↔◌, ◌<◌, ◌≤◌, ℕ, Contains, IfOk, IsTrue, List, MatchOption, OnOk, Some, length, map, true};
+ghost use Rattle.std.specs.Prelude.{◌≡◌, ◌↔◌, ◌<◌, ◌≤◌, ℕ, Contains, IfOk, IsPermutation, IsTrue, List, MatchOption, OnOk, Some, length, map, true};
 ghost use Rattle.std.specs.List.Sorted.{IsNonDecreasingBy};
 ghost use Rattle.cil_settle.specs.Cycles.{Leads};
 ghost use Rattle.cil_faults.specs.Refusal.{Answers};
@@ -22,7 +22,7 @@ use cil_faults::{Failure, FaultCode, refuse};
 use cil_known::Known;
 use cil_macros::Instances;
 use cil_names::{Entry, Meaning, laws};
-use cil_settle::{Edge, cycles_of, sort_edges};
+use cil_settle::{Edge, cycles_of};
 use cil_syntax::{Kind, Sign};
 use std::alloc::Global;
 
@@ -82,9 +82,16 @@ fn set_edges(alloc: Global, instances: &Instances, known: &Known) -> Result<Vec<
     ensures sorted { IfOk result (λ edges. IsNonDecreasingBy (λ e. e.from) edges.items) }
     ensures edges { IfOk result (λ edges. (a b : ℕ) → Leads edges.items a b ↔ IsSetEdgeIn known.now (items_in instances.now) a b) }
 {
-    let mut edges = unsorted_edges(alloc, instances, known)?;
-    sort_edges(edges.as_mut_slice());
-    Ok(edges)
+    let edges = unsorted_edges(alloc, instances, known)?;
+    Ok(sorted(edges))
+}
+
+fn sorted(mut edges: Vec<Edge>) -> Vec<Edge>
+    ensures sorted { IsNonDecreasingBy (λ e. e.from) result.items }
+    ensures same { IsPermutation edges.items result.items }
+{
+    edges.sort_unstable_by_key(|edge| edge.from);
+    edges
 }
 
 /// The same in the order of the statements.
@@ -143,7 +150,9 @@ fn set_declared(instances: &Instances, known: &Known, at: usize) -> Option<usize
     if !known.is_enabled(instances, at) {
         return None;
     }
-    let name = statement.declared_name()?;
+    let Some(name) = statement.declared_name() else {
+        return None;
+    };
     let space = instances.space(at);
     known.lookup.names.entry(
         known.lookup.namespaces,

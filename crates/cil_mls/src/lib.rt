@@ -16,6 +16,7 @@
 
 mod categories;
 mod category_sets;
+mod in_order;
 mod item_order;
 pub mod laws;
 mod level;
@@ -35,8 +36,9 @@ mod texts;
 mod words;
 
 pub use categories::{Categories, MOST_CATEGORIES};
+pub use in_order::Orders;
 pub use level::{Level, Range};
 pub use level_names::{LevelNames, MOST_SENSITIVITIES};
 pub use named::Named;
 pub use order::order_of;
-pub use ordered::{Orders, orders};
+pub use ordered::orders;

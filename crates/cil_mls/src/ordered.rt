@@ -14,6 +14,7 @@ ghost use Rattle.cil_mls.specs.OrderParts.{AreBothOrders, AreFew, AreJudged, IsO
 
 use crate::categories::MOST_CATEGORIES;
 use crate::category_sets::check_category_sets;
+use crate::in_order::Orders;
 use crate::item_order::{category_order, sensitivity_order};
 use crate::level_names::MOST_SENSITIVITIES;
 use crate::policy_faults::{check_limit, ordered, policy_fault};
@@ -23,17 +24,6 @@ use cil_faults::{Both, Failure, FaultCode, together};
 use cil_known::{Known, Sections};
 use cil_macros::Instances;
 use std::alloc::Global;
-
-/// The orders of a policy, and whether its levels are on.
-#[derive(Drop)]
-pub struct Orders {
-    /// The sensitivities from the lowest to the highest, by their numbers.
-    pub sensitivities: Vec<usize>,
-    /// The categories from the lowest to the highest, by their numbers.
-    pub categories: Vec<usize>,
-    /// Whether contexts have levels: whether an `mls` statement says so.
-    pub are_on: bool,
-}
 
 /// The orders of sensitivities and of categories, and whether levels are on. It costs what `sensitivity_order` and `category_order`
 /// cost, and two steps for each statement.

@@ -1,6 +1,6 @@
 //! Whether levels are on, as `mls` statements say.
 
-ghost use Rattle.std.specs.Prelude.{◌≡◌, ◌↔◌, ℕ, true};
+ghost use Rattle.std.specs.Prelude.{◌≡◌, ◌↔◌, ◌<◌, ℕ, length, true};
 ghost use Rattle.cil_faults.specs.declared.spot.Spot.{Spot};
 ghost use Rattle.cil_syntax.specs.Said.{all_said, said_of};
 ghost use Rattle.cil_syntax.specs.Terms.{Form};
@@ -28,6 +28,7 @@ pub(crate) fn is_switched(instances: &Instances, known: &Known, on: bool) -> boo
 
 /// Whether the statement at a place does so.
 fn switches_at(instances: &Instances, known: &Known, at: usize, on: bool) -> bool
+    requires { at < length (items_in instances.now) }
     ensures { result ≡ switches (enabled_in known.now) on (item_at instances.now at) }
 {
     let statement = instances.statement_there(at);

@@ -1,4 +1,6 @@
-use Rattle.std.specs.Prelude.{Contains}
+use Rattle.std.proofs.Common.{List, subst}
+use Rattle.cil_names.specs.declared.entry.Entry.{Entry}
+use Rattle.cil_mls.specs.Pairs.{LeadMore}
 use Rattle.cil_macros.specs.Items.{item_at, items_in}
 use Rattle.cil_mls.specs.SetEdges.{IsSetEdge}
 use Rattle.cil_mls.proofs.PairLemmas.{lead_as, no_more}
@@ -20,4 +22,5 @@ returns c =
     let xs = items_in c.args.instances.now in
     let x = item_at c.args.instances.now c.args.at in
     lead_as _ _ (LeadsTo k.lookup.names.now c.in-Some.set c.args.words.now) (IsSetEdge k xs x)
-    (its_edges k xs x c.in-Some.set c.in-Some.ensures (c.asks_words.ensures c.if-not-asks_words.false) c.args.words.now c.requires.row) c.in_ok-push_named.ensures
+    (its_edges k xs x c.in-Some.set c.in-Some.ensures (c.asks_words.ensures c.if-not-asks_words.false) c.args.words.now c.requires.row)
+    (subst (λ (es : List Entry). LeadMore c.args.edges.now.items c.push_named.new.edges.items (LeadsTo es c.in-Some.set c.args.words.now)) c.entries.ensures.value c.in_ok-push_named.ensures)

@@ -36,6 +36,14 @@ returns-then-not-declares c at name d =
 pub returns-then-not-is_enabled : goal.returns-then-not-is_enabled
 returns-then-not-is_enabled c at name d = true≢false (sym d.enabled ∙ sym c.is_enabled.ensures ∙ c.if-not-is_enabled.true)
 
+pub returns-in_default : goal.returns-in_default
+returns-in_default c at name d =
+    let i = c.args.instances.now in
+    let s = c.statement_there-statement.result.now in
+    let are = (said_so i c.args.at s c.statement_there-statement.ensures.is).args (declares_written s.keyword kinds.CategorySet (c.declares.ensures.0 c.if-not-declares.false)) in
+    let (more, is) = front_written (args_of s) (item_at i c.args.at).args are at name d.rest d.says in
+    none-some name (sym c.in_default.ensures ∙ ap name_in_front is)
+
 pub returns : goal.returns
 returns c =
     let k = c.args.known.now in
@@ -48,8 +56,8 @@ returns c =
     let there = keyword_there i c.args.at s c.statement_there-statement.ensures.is in
     let declares = c.declares.ensures.0 c.if-not-declares.false in
     let are = (said_so i c.args.at s c.statement_there-statement.ensures.is).args (declares_written s.keyword kinds.CategorySet declares) in
-    let name = c.in_some-name.name in
-    let front = front_said (args_of s) x.args are name.at name.bytes.now c.in_some-name.ensures in
+    let name = c.in-Some.name in
+    let front = front_said (args_of s) x.args are name.at name.bytes.now c.in-Some.ensures in
     let space : space_at ss c.space-space.result ≡ x.space = ap (λ z. space_at z c.space-space.result) c.requires.namespaces ∙ c.space-space.ensures.is in
     declares_just k xs x c.requires.known.1.entries name.at name.bytes.now
     (record {

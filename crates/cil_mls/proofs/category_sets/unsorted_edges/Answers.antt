@@ -1,4 +1,4 @@
-use Rattle.std.specs.Prelude.{option_map, slice_get, take}
+use Rattle.std.specs.Prelude.{option_map, take}
 use Rattle.std.proofs.Common.{◌<◌, ◌∙◌, ap, length, map, subst, sym, arith}
 use Rattle.std.proofs.lemmas.Option.{slice_get-map}
 use Rattle.cil_macros.specs.Items.{item_at, items_in}

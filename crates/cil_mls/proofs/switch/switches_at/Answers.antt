@@ -1,4 +1,4 @@
-use Rattle.std.proofs.Common.{◌≡◌, true, false, ◌&&◌, sym, ◌∙◌, ap}
+use Rattle.std.proofs.Common.{◌≡◌, true, ◌&&◌, sym, ◌∙◌, ap}
 use Rattle.cil_syntax.specs.Said.{all_said, args_of}
 use Rattle.cil_macros.specs.Item.{is_enabled}
 use Rattle.cil_macros.specs.Items.{item_at, word_at}
