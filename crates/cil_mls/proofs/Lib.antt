@@ -18,5 +18,6 @@ pub mod SetEdgeLemmas
 pub mod SpanLemmas
 pub mod SwitchLemmas
 pub mod SymbolLemmas
+pub mod ValueLemmas
 pub mod WordLemmas
 pub mod WordListLemmas

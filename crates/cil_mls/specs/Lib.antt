@@ -16,3 +16,4 @@ pub mod PolicyFaults
 pub mod Reading
 pub mod SetEdges
 pub mod Switch
+pub mod Values

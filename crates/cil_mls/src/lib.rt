@@ -16,6 +16,7 @@
 
 mod categories;
 mod category_sets;
+mod expression;
 mod in_order;
 mod item_order;
 pub mod laws;
@@ -36,6 +37,7 @@ mod texts;
 mod words;
 
 pub use categories::{Categories, MOST_CATEGORIES};
+pub use expression::{Evaluator, Held, Valued, value};
 pub use in_order::Orders;
 pub use level::{Level, Range};
 pub use level_names::{LevelNames, MOST_SENSITIVITIES};
