@@ -1,5 +1,4 @@
--- The categories of a set expression, by what its words stand for. CIL Reference Guide, "Expressions" and "categoryset". No other
--- crate needs these words.
+-- The categories of a set expression, by what its words stand for. CIL Reference Guide, "Expressions" and "categoryset".
 use Rattle.std.specs.Prelude.{◌≡◌, ℕ, ◌<◌, Bool, true, false, ◌==◌, ◌&&◌, ◌||◌, ltb, List, Option}
 use Rattle.std.proofs.Common.{get_or}
 use Rattle.std.specs.Option.{option_map_or}

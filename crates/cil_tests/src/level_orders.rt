@@ -1,7 +1,8 @@
 //! The orders of sensitivities and of categories, and whether levels are on. A host refuses their statements by name, so no session
 //! shows them.
 
-ghost use Rattle.std.specs.Prelude.{◌≡◌, List, map};
+ghost use Rattle.std.specs.Prelude.{◌≡◌, ◌<◌, All, IsTrue, List, length, map};
+ghost use Rattle.cil_mls.specs.Values.{IsFew};
 ghost use Rattle.cil_syntax.specs.Program.{IsNested};
 ghost use Rattle.cil_blocks.specs.Places.{AreStandings, statements_in};
 ghost use Rattle.cil_macros.specs.Items.{items_in, namespaces_in};
@@ -14,14 +15,14 @@ ghost use Rattle.cil_names.specs.Rows.{IsTableOf};
 ghost use Rattle.cil_names.specs.Unresolved.{ArePermissions};
 
 use crate::growths::show_faults;
-use cil_base::Bytes;
+use cil_base::{Bytes, NoMemory};
 use cil_blocks::{Spaces, inherit};
 use cil_known::{Known, Sections, numbered};
 use cil_macros::{Instances, expand};
-use cil_mls::{Orders, orders};
+use cil_mls::{Categories, Evaluator, Held, MOST_CATEGORIES, Orders, orders, value};
 use cil_modset::ModuleSet;
-use cil_names::{Lookup, Names, OptSet, Words, commons_of, declare, permissions_of};
-use cil_syntax::{Failure, Program, all_written};
+use cil_names::{Entry, Lookup, Names, OptSet, Words, commons_of, declare, permissions_of};
+use cil_syntax::{Failure, Keyword, Kind, Program, all_written};
 use cil_text_tests::set_of;
 use cil_words::{asks_of, settled};
 use std::alloc::Global;
@@ -83,7 +84,7 @@ const ROWS: &[(&str, &str)] = &[
     // a set of categories takes no part
     (
         "(category c)(category d)(categoryset e (c d))(categoryorder (d c))",
-        "\nd c\noff\n",
+        "\nd c\noff\ne: d c\n",
     ),
     // 51, 52, 53: no order of that name space is judged, and the other one is
     (
@@ -128,7 +129,7 @@ const ROWS: &[(&str, &str)] = &[
     ),
     (
         "(category c)(categoryalias k)(categoryaliasactual k c)(categoryset s (k (range c k) (all)))(categoryset t (s))",
-        "\nc\noff\n",
+        "\nc\noff\ns: c\nt: c\n",
     ),
     // levels are on, off, and both
     ("(mls true)", "\n\non\n"),
@@ -140,6 +141,63 @@ const ROWS: &[(&str, &str)] = &[
         "57 0 0 . -\n59 0 0 . -\n",
     ),
 ];
+
+/// The expression of a set over categories from `c0` to `c3`, in this order, of which `s` has the last two; and its categories.
+const VALUES: &[(&str, &str)] = &[
+    ("c1", " c1"),
+    ("(c3 c1)", " c1 c3"),
+    ("s", " c2 c3"),
+    ("()", ""),
+    ("all", " c0 c1 c2 c3"),
+    ("(all)", " c0 c1 c2 c3"),
+    ("(not (c1 c3))", " c0 c2"),
+    ("(not s)", " c0 c1"),
+    ("(not all)", ""),
+    ("(range c1 c3)", " c1 c2 c3"),
+    ("(range c2 c2)", " c2"),
+    ("(range c3 c1)", ""),
+    ("(and (range c0 c2) (not (c1)))", " c0 c2"),
+    ("(and all s)", " c2 c3"),
+    ("(or (c0) s)", " c0 c2 c3"),
+    ("(xor (range c0 c2) s)", " c0 c1 c3"),
+    ("((range c0 c1) (xor c3 (and c3 s)))", " c0 c1"),
+    // what is behind a range, or an expression in it, is read at its place
+    ("((range c0 c1) c3)", " c0 c1 c3"),
+    ("((not (and s (range c3 c3))) c3)", " c0 c1 c2 c3"),
+];
+
+/// A text with an expression, and the line of its set. None where there is no memory.
+fn text_and_line(alloc: Global, expression: &str, want: &str) -> Option<(String, String)> {
+    let mut text = String::new(alloc);
+    write!(
+        text,
+        "(category c0)(category c1)(category c2)(category c3)(categoryorder (c0 c1 c2 c3))(categoryset s (c3 c2))"
+    )
+    .ok()?;
+    write!(text, "(categoryset t {expression})").ok()?;
+    let mut line = String::new(alloc);
+    write!(line, "t:{want}\n").ok()?;
+    Some((text, line))
+}
+
+/// Whether these are the categories of an expression.
+fn are_categories(alloc: Global, expression: &str, want: &str) -> bool {
+    let Some((text, line)) = text_and_line(alloc, expression, want) else {
+        return false;
+    };
+    let mut out = String::new(alloc);
+    show_texts(alloc, &[text.as_str()], &mut out) && out.as_str().ends_with(line.as_str())
+}
+
+#[test]
+fn expressions_have_their_categories(rt: HostRuntime) {
+    for &(expression, want) in VALUES {
+        assert!(rt;
+            are_categories(rt.alloc(), expression, want),
+            "{expression}"
+        );
+    }
+}
 
 /// Whether these are the lines of a text.
 fn are_lines(alloc: Global, text: &str, want: &str) -> bool {
@@ -295,7 +353,17 @@ fn show_orders(
     requires apart { AreApart known.now.lookup.names.now (enabled_in known.now) known.now.numbers.now }
 {
     match orders(alloc, instances, known, sections) {
-        Ok(orders) => show_found(sections, &orders, out),
+        Ok(orders) => {
+            show_found(sections, &orders, out)
+                && show_sets(
+                    alloc,
+                    instances,
+                    known,
+                    sections,
+                    orders.categories.as_slice(),
+                    out,
+                )
+        }
         Err(Failure::Faults(faults)) => show_faults(alloc, &faults, out),
         Err(Failure::NoMemory) => false,
     }
@@ -318,6 +386,140 @@ fn show_found(sections: &Sections, orders: &Orders, out: &mut String) -> bool {
     }
     let switch = if orders.are_on { "on\n" } else { "off\n" };
     out.push_str(switch).is_ok()
+}
+
+/// Adds a line for each statement of a set of categories that names categories and sets before it: its name, and its categories.
+fn show_sets(
+    alloc: Global,
+    instances: &Instances,
+    known: &Known,
+    sections: &Sections,
+    order: &[usize],
+    out: &mut String,
+) -> bool {
+    let Ok(mut held) = first_held(alloc, known, order) else {
+        return false;
+    };
+    for at in 0..instances.len() {
+        if !show_set(instances, known, at, sections, order, &mut held, out) {
+            return false;
+        }
+    }
+    true
+}
+
+/// What entries stand for, but for aliases and sets.
+fn first_held(alloc: Global, known: &Known, order: &[usize]) -> Result<Vec<Held>, NoMemory> {
+    let mut held = Vec::new(alloc);
+    let entries = known.lookup.names.entries();
+    for number in 0..entries.len() {
+        let is_category = entries[number].kind == Kind::Category;
+        held.push(held_at(is_category, place_of(order, known.numbers, number)))?;
+    }
+    Ok(held)
+}
+
+fn held_at(is_category: bool, place: Option<usize>) -> Held {
+    match place {
+        Some(place) if is_category => Held::Category(place),
+        _ => Held::Nothing,
+    }
+}
+
+/// The place of the number of an entry in an order.
+fn place_of(order: &[usize], numbers: &[usize], entry: usize) -> Option<usize> {
+    let number = numbers.get(entry)?;
+    order.iter().position(|other| other == number)
+}
+
+/// Adds the line of the statement at a place, if it is one of a set of categories, and keeps what the set stands for.
+fn show_set(
+    instances: &Instances,
+    known: &Known,
+    at: usize,
+    sections: &Sections,
+    order: &[usize],
+    held: &mut Vec<Held>,
+    out: &mut String,
+) -> bool
+    requires { at < length (items_in instances.now) }
+{
+    let statement = instances.statement_there(at);
+    let (Some(name), Some(term)) = (statement.declared_name(), statement.args.as_slice().get(1))
+    else {
+        return true;
+    };
+    if statement.keyword != Keyword::CategorySet {
+        return true;
+    }
+    if !are_few(held.as_slice()) || order.len() > MOST_CATEGORIES {
+        return false;
+    }
+    let by = Evaluator {
+        count: order.len(),
+        held: held.as_slice(),
+    };
+    let value = value(&by, term, known.words.row(at)).value;
+    keep(known.lookup.names.entries(), name.bytes, value, held);
+    show_value(
+        name.bytes,
+        &value,
+        sections.categories.as_slice(),
+        order,
+        out,
+    )
+}
+
+/// Whether all places are below 1,024.
+fn are_few(held: &[Held]) -> bool
+    ensures { IsTrue result → All IsFew held.now }
+{
+    held.iter().all(is_few)
+}
+
+fn is_few(held: &Held) -> bool
+    ensures { IsTrue result → IsFew held.now }
+{
+    match held {
+        Held::Category(place) => *place < MOST_CATEGORIES,
+        Held::Nothing | Held::Set(_) => true,
+    }
+}
+
+/// Keeps what a set of this name stands for.
+fn keep(entries: &[Entry], name: &[u8], value: Categories, held: &mut Vec<Held>) {
+    for number in 0..entries.len() {
+        if number < held.len() && is_set_named(&entries[number], name) {
+            held[number] = Held::Set(value);
+        }
+    }
+}
+
+fn is_set_named(entry: &Entry, name: &[u8]) -> bool {
+    entry.kind == Kind::CategorySet && entry.name.as_slice() == name
+}
+
+fn show_value(
+    name: &[u8],
+    value: &Categories,
+    names: &[Bytes],
+    order: &[usize],
+    out: &mut String,
+) -> bool {
+    if !str::from_utf8(name).is_ok_and(|text| out.push_str(text).is_ok()) {
+        return false;
+    }
+    if out.push_str(":").is_err() {
+        return false;
+    }
+    for place in 0..order.len() {
+        if place < MOST_CATEGORIES && value.has(place) {
+            if out.push_str(" ").is_err() || !show_name(names, order[place], out) {
+                return false;
+            }
+        }
+    }
+    out.push_str("\n").is_ok()
 }
 
 /// Adds the names of these numbers, in their order.
@@ -350,7 +552,7 @@ fn statements_fix_one_order_or_none(rt: HostRuntime) {
 /// Both orders, with an alias and a set in a set.
 const REFUSED: (&str, &str) = (
     "(mls true)(sensitivity s)(sensitivity t)(sensitivityalias k)(sensitivityaliasactual k t)(sensitivityorder (k s))(category c)(category d)(categoryorder (c d))(categoryset a (c))(categoryset b (a d))",
-    "t s\nc d\non\n",
+    "t s\nc d\non\na: c\nb: c d\n",
 );
 
 #[test]
