@@ -7,7 +7,7 @@ ghost use Rattle.cil_syntax.specs.Table.{is_unsupported, later_words, left_out_w
 use crate::spelling;
 
 /// The statements that are read, and whose meaning is still to come: levels, constraints and what they rest on.
-const WORDS_TO_COME: [&[u8]; 19] = [
+const WORDS_TO_COME: [&[u8]; 18] = [
     b"sensitivity",
     b"sensitivityalias",
     b"sensitivityaliasactual",
@@ -19,7 +19,6 @@ const WORDS_TO_COME: [&[u8]; 19] = [
     b"categoryaliasactual",
     b"categoryorder",
     b"categoryset",
-    b"roleallow",
     b"userlevel",
     b"userrange",
     b"level",
