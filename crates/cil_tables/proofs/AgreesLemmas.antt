@@ -1,5 +1,5 @@
 -- What the tables of items say is what the items say.
-use Rattle.std.specs.Prelude.{Some, slice_get}
+use Rattle.std.specs.Prelude.{Contains, Some, slice_get}
 use Rattle.std.specs.List.Sorted.{IsStrictlySortedBy}
 use Rattle.std.proofs.Common.{◌≡◌, ℕ, Bool, List, [], ◌∷◌, refl, sym, ◌∙◌, ap, subst, inl, inr}
 use Rattle.std.proofs.lemmas.Cmp.{nat_list_cmp_total}
@@ -14,7 +14,7 @@ use Rattle.cil_syntax.specs.Terms.{Term, Leaf, Name, Form}
 use Rattle.cil_tables.specs.declared.context.Context.{Context as Numbers}
 use Rattle.cil_classes.specs.declared.row.Class.{Class}
 use Rattle.cil_rules.specs.Rule.{Rule, Target, Types, Itself}
-use Rattle.cil_tables.specs.Agrees.{Agrees, CoverAs, SameContext, SamePermission}
+use Rattle.cil_tables.specs.Agrees.{Agrees, BarsAs, CoverAs, SameContext, SamePermission}
 use Rattle.cil_known.specs.Says.{AreJoined}
 use Rattle.cil_tables.specs.Contexts.{Context, IsValid}
 use Rattle.cil_conditions.proofs.ConditionLemmas.{branches_agree, chosen_is_said}
@@ -33,7 +33,8 @@ use Rattle.cil_macros.specs.Item.{Item, OptSet}
 use Rattle.cil_syntax.specs.Scopes.{ScopedWord}
 use Rattle.cil_base.proofs.SearchLemmas.{one_number as one_of_key}
 use Rattle.cil_tables.specs.Aliases.{NamesType}
-use Rattle.cil_tables.specs.Meaning.{IsContext, IsTypeText}
+use Rattle.cil_tables.specs.Meaning.{Bars, IsContext, IsTransition, IsTypeText}
+use Rattle.cil_tables.specs.RoleChanges.{IsBarred, MayChange}
 use Rattle.cil_rules.specs.Covers.{HasCover, Reaches}
 use Rattle.cil_known.specs.Members.{StandsFor}
 use Rattle.cil_classes.specs.Given.{HasPair}
@@ -248,6 +249,48 @@ module _ (xs : List Item) (s : OptSet) (one : HaveOneSymbol xs s) where
         λ on v same n m a b number bit c p sa sb sp.
         (cover_there n m a b number bit c p sa sb sp on v same keyword rules given, cover_back n m a b number bit c p sa sb sp on v same keyword rules given)
 
+    -- ---- changes of role
+
+    module _ (n m : Numbers) (a b : Context) (sa : SameContext xs s t n a) (sb : SameContext xs s t m b) where
+      let_there : Contains t.role_allows (record { holder = n.role; held = m.role }) → MayChange xs s a.role b.role
+      let_there link = joined_from keywords.RoleAllow kinds.Role kinds.Role t.roles t.roles a.role b.role n.role m.role sa.a_role sb.a_role sa.role sb.role ((table.role_allows.members _).0 link)
+
+      let_back : MayChange xs s a.role b.role → Contains t.role_allows (record { holder = n.role; held = m.role })
+      let_back joined = (table.role_allows.members _).1 (record { holder = a.role; held = b.role; joined = joined; holder_number = sa.role; held_number = sb.role })
+
+      same_role : n.role ≡ m.role → a.role ≡ b.role
+      same_role e = one_numbered t.roles m.role kinds.Role kinds.Role a.role b.role sa.a_role sb.a_role (subst (IsNumbered t.roles a.role) e sa.role) sb.role
+
+      same_number : a.role ≡ b.role → n.role ≡ m.role
+      same_number e = one_number t.roles n.role m.role (name_of a.role) table.roles.rising sa.role (subst (λ z. IsNumbered t.roles z m.role) (sym e) sb.role)
+
+      module _ (number bit : ℕ) (c : Symbol) (p : List ℕ) (sp : SamePermission xs s t number bit c p) where
+        bars_there : Bars t n m number bit → IsBarred xs s a b c p
+        bars_there is =
+            let row : is.row ≡ sp.row = same_Some _ _ (sym is.is_row ∙ sp.is_row) in
+            let permission : is.permission ≡ p = same_Some _ _ (sym is.is_permission ∙ ap (λ (z : Class). slice_get z.permissions bit) row ∙ sp.is_permission) in
+            record {
+              of_process = sym sp.named ∙ ap (λ (z : Class). z.name) (sym row) ∙ is.of_process;
+              transition = subst IsTransition permission is.transition;
+              changes = λ e. is.changes (same_number e);
+              not_let = λ joined. is.not_let (let_back joined);
+            }
+
+        bars_back : IsBarred xs s a b c p → Bars t n m number bit
+        bars_back is = record {
+          row = sp.row;
+          is_row = sp.is_row;
+          of_process = sp.named ∙ is.of_process;
+          permission = p;
+          is_permission = sp.is_permission;
+          transition = is.transition;
+          changes = λ e. is.changes (same_role e);
+          not_let = λ link. is.not_let (let_there link);
+        }
+
+    bars_as : BarsAs xs s t
+    bars_as n m a b number bit c p sa sb sp = (bars_there n m a b sa sb number bit c p sp, bars_back n m a b sa sb number bit c p sp)
+
     pub table_agrees : Agrees xs s t
     table_agrees = record {
       read = reads;
@@ -255,4 +298,5 @@ module _ (xs : List Item) (s : OptSet) (one : HaveOneSymbol xs s) where
       allow = cover_as keywords.Allow t.rules.allow table.rules.allow;
       auditallow = cover_as keywords.AuditAllow t.rules.auditallow table.rules.auditallow;
       dontaudit = cover_as keywords.DontAudit t.rules.dontaudit table.rules.dontaudit;
+      change = bars_as;
     }

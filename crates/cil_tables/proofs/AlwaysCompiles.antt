@@ -66,6 +66,7 @@ module _ (xs : List Item) (none : (f : Fault) → SetsFault nobody xs f → ⊥)
     each_class = λ row c. let k = is.classes.only row c in record { permissions = k.2.permissions.rising; few = few xs nobody (λ f c. none f (inl c)) k.0 row k.1 k.2 };
     user_roles = is.user_roles.rising;
     role_types = is.role_types.rising;
+    role_allows = is.role_allows.rising;
   }
 
 -- ---- the steps

@@ -23,7 +23,7 @@ use Rattle.cil_tables.specs.Aliases.{IsAlias}
 use Rattle.cil_tables.specs.Table.{alias_cmp, boolean_names, link_cmp}
 
 -- the sections, as a table
-module _ (xs : List Item) (s : OptSet) (names : Kind → List (List ℕ)) (users roles types : List (List ℕ)) (aliases : List Alias) (classes : List Class) (booleans : List Boolean) (user_roles role_types : List Link) (rules : RuleSections) where
+module _ (xs : List Item) (s : OptSet) (names : Kind → List (List ℕ)) (users roles types : List (List ℕ)) (aliases : List Alias) (classes : List Class) (booleans : List Boolean) (user_roles role_types role_allows : List Link) (rules : RuleSections) where
   pub table_of : users ≡ names kinds.User → roles ≡ names kinds.Role → types ≡ names kinds.Type_
       → Lists text_cmp (IsNameOf xs s kinds.User) (names kinds.User) → Lists text_cmp (IsNameOf xs s kinds.Role) (names kinds.Role) → Lists text_cmp (IsNameOf xs s kinds.Type_) (names kinds.Type_)
       → Lists text_cmp (IsNameOf xs s kinds.Boolean) (names kinds.Boolean) → boolean_names booleans ≡ names kinds.Boolean
@@ -32,12 +32,13 @@ module _ (xs : List Item) (s : OptSet) (names : Kind → List (List ℕ)) (users
       → Gives class_cmp (Declared xs s kinds.Class) (IsRowOf xs) classes
       → Lists link_cmp (IsLink xs s keywords.UserRole kinds.User kinds.Role (names kinds.User) (names kinds.Role)) user_roles
       → Lists link_cmp (IsLink xs s keywords.RoleType kinds.Role kinds.Type_ (names kinds.Role) (names kinds.Type_)) role_types
+      → Lists link_cmp (IsLink xs s keywords.RoleAllow kinds.Role kinds.Role (names kinds.Role) (names kinds.Role)) role_allows
       → AreRules xs s (names kinds.Type_) classes (names kinds.Boolean) rules
-      → IsTable xs s (record { users = users; roles = roles; types = types; type_aliases = aliases; classes = classes; booleans = booleans; user_roles = user_roles; role_types = role_types; rules = rules })
-  table_of u r t us rs ts bs b ds of_aliases cs urs rts ru =
-      subst (λ (z : List (List ℕ)). IsTable xs s (record { users = z; roles = roles; types = types; type_aliases = aliases; classes = classes; booleans = booleans; user_roles = user_roles; role_types = role_types; rules = rules })) (sym u)
-      (subst (λ (z : List (List ℕ)). IsTable xs s (record { users = names kinds.User; roles = z; types = types; type_aliases = aliases; classes = classes; booleans = booleans; user_roles = user_roles; role_types = role_types; rules = rules })) (sym r)
-      (subst (λ (z : List (List ℕ)). IsTable xs s (record { users = names kinds.User; roles = names kinds.Role; types = z; type_aliases = aliases; classes = classes; booleans = booleans; user_roles = user_roles; role_types = role_types; rules = rules })) (sym t)
+      → IsTable xs s (record { users = users; roles = roles; types = types; type_aliases = aliases; classes = classes; booleans = booleans; user_roles = user_roles; role_types = role_types; role_allows = role_allows; rules = rules })
+  table_of u r t us rs ts bs b ds of_aliases cs urs rts ras ru =
+      subst (λ (z : List (List ℕ)). IsTable xs s (record { users = z; roles = roles; types = types; type_aliases = aliases; classes = classes; booleans = booleans; user_roles = user_roles; role_types = role_types; role_allows = role_allows; rules = rules })) (sym u)
+      (subst (λ (z : List (List ℕ)). IsTable xs s (record { users = names kinds.User; roles = z; types = types; type_aliases = aliases; classes = classes; booleans = booleans; user_roles = user_roles; role_types = role_types; role_allows = role_allows; rules = rules })) (sym r)
+      (subst (λ (z : List (List ℕ)). IsTable xs s (record { users = names kinds.User; roles = names kinds.Role; types = z; type_aliases = aliases; classes = classes; booleans = booleans; user_roles = user_roles; role_types = role_types; role_allows = role_allows; rules = rules })) (sym t)
       (record {
         users = us;
         roles = rs;
@@ -47,5 +48,6 @@ module _ (xs : List Item) (s : OptSet) (names : Kind → List (List ℕ)) (users
         booleans = record { names = subst (Lists text_cmp (IsNameOf xs s kinds.Boolean)) (sym b) bs; defaults = ds };
         user_roles = urs;
         role_types = rts;
+        role_allows = ras;
         rules = subst (λ (z : List (List ℕ)). AreRules xs s (names kinds.Type_) classes z rules) (sym b) ru;
       })))

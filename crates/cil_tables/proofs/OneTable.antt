@@ -81,9 +81,9 @@ same_row : (a b : Class) → a.name ≡ b.name → a.permissions ≡ b.permissio
 same_row a b n p = λ i. record { name = n i; permissions = p i }
 
 same_table : (t u : Table) → t.users ≡ u.users → t.roles ≡ u.roles → t.types ≡ u.types → t.type_aliases ≡ u.type_aliases → t.classes ≡ u.classes → t.user_roles ≡ u.user_roles
-    → t.role_types ≡ u.role_types → t.rules ≡ u.rules → t.booleans ≡ u.booleans → t ≡ u
-same_table t u a b c d e f g h k =
-    λ i. record { users = a i; roles = b i; types = c i; type_aliases = d i; classes = e i; booleans = k i; user_roles = f i; role_types = g i; rules = h i }
+    → t.role_types ≡ u.role_types → t.role_allows ≡ u.role_allows → t.rules ≡ u.rules → t.booleans ≡ u.booleans → t ≡ u
+same_table t u a b c d e f g j h k =
+    λ i. record { users = a i; roles = b i; types = c i; type_aliases = d i; classes = e i; booleans = k i; user_roles = f i; role_types = g i; role_allows = j i; rules = h i }
 
 -- booleans with the same names and the same defaults are one list
 same_boolean : (a b : Boolean) → a.name ≡ b.name → a.default ≡ b.default → a ≡ b
@@ -166,6 +166,8 @@ module _ (xs : List Item) (s : OptSet) where
         let role_types : Lists link_cmp (IsLink xs s keywords.RoleType kinds.Role kinds.Type_ u.roles u.types) t.role_types =
         subst (λ z. Lists link_cmp (IsLink xs s keywords.RoleType kinds.Role kinds.Type_ u.roles z) t.role_types) types
         (subst (λ z. Lists link_cmp (IsLink xs s keywords.RoleType kinds.Role kinds.Type_ z t.types) t.role_types) roles a.role_types) in
+        let role_allows : Lists link_cmp (IsLink xs s keywords.RoleAllow kinds.Role kinds.Role u.roles u.roles) t.role_allows =
+        subst (λ z. Lists link_cmp (IsLink xs s keywords.RoleAllow kinds.Role kinds.Role z z) t.role_allows) roles a.role_allows in
         let aliases : Lists alias_cmp (IsAlias xs s u.types) t.type_aliases = subst (λ z. Lists alias_cmp (IsAlias xs s z) t.type_aliases) types a.type_aliases in
         let booleans : boolean_names t.booleans ≡ boolean_names u.booleans =
         one_list text_cmp nat_list_cmp_total (IsNameOf xs s kinds.Boolean) (boolean_names t.booleans) (boolean_names u.booleans) a.booleans.names b.booleans.names in
@@ -175,6 +177,7 @@ module _ (xs : List Item) (s : OptSet) where
         same_table t u users roles types (one_list alias_cmp alias_total (IsAlias xs s u.types) t.type_aliases u.type_aliases aliases b.type_aliases) one_classes
         (one_list link_cmp link_total (IsLink xs s keywords.UserRole kinds.User kinds.Role u.users u.roles) t.user_roles u.user_roles user_roles b.user_roles)
         (one_list link_cmp link_total (IsLink xs s keywords.RoleType kinds.Role kinds.Type_ u.roles u.types) t.role_types u.role_types role_types b.role_types)
+        (one_list link_cmp link_total (IsLink xs s keywords.RoleAllow kinds.Role kinds.Role u.roles u.roles) t.role_allows u.role_allows role_allows b.role_allows)
         (one_rules u.types u.classes (boolean_names u.booleans) (λ n m name at bt. one_number (boolean_names u.booleans) n m name b.booleans.names.rising at bt) b.classes.rising t.rules u.rules rules b.rules)
         (one_booleans (is_default_on xs s) t.booleans u.booleans a.booleans.defaults b.booleans.defaults booleans)
 

@@ -255,6 +255,8 @@ module _ (xs : List Item) (plain : HaveFlatKeywords xs) where
         (finite_links xs plain nobody keywords.UserRole kinds.User kinds.Role users.list roles.list) in
         let role_types = finite_listing link_cmp link_total one_link (IsLink xs nobody keywords.RoleType kinds.Role kinds.Type_ roles.list types.list)
         (finite_links xs plain nobody keywords.RoleType kinds.Role kinds.Type_ roles.list types.list) in
+        let role_allows = finite_listing link_cmp link_total one_link (IsLink xs nobody keywords.RoleAllow kinds.Role kinds.Role roles.list roles.list)
+        (finite_links xs plain nobody keywords.RoleAllow kinds.Role kinds.Role roles.list roles.list) in
         let booleans = names_of (IsNameOf xs nobody kinds.Boolean) (finite_names xs nobody kinds.Boolean) in
         let given = rules booleans.list booleans.lists types.list classes.0 classes.1 in (
           record {
@@ -266,6 +268,7 @@ module _ (xs : List Item) (plain : HaveFlatKeywords xs) where
             booleans = map boolean_of booleans.list;
             user_roles = user_roles.list;
             role_types = role_types.list;
+            role_allows = role_allows.list;
             rules = given.0;
           },
           record {
@@ -277,6 +280,7 @@ module _ (xs : List Item) (plain : HaveFlatKeywords xs) where
             booleans = booleans_of booleans.list booleans.lists;
             user_roles = user_roles.lists;
             role_types = role_types.lists;
+            role_allows = role_allows.lists;
             rules = subst (λ (z : List (List ℕ)). AreRules xs nobody types.list classes.0 z given.0) (sym (same_names booleans.list)) given.1;
           },
         )

@@ -15,7 +15,8 @@ use Rattle.cil_macros.specs.Item.{Item, OptSet}
 use Rattle.cil_optionals.specs.Policy.{ArePolicy}
 use Rattle.cil_rules.specs.Covers.{HasCover}
 use Rattle.cil_rules.specs.Rule.{Rule}
-use Rattle.cil_tables.specs.Meaning.{IsContext}
+use Rattle.cil_tables.specs.Meaning.{Bars, IsContext}
+use Rattle.cil_tables.specs.RoleChanges.{IsBarred}
 use Rattle.cil_conditions.specs.Conditions.{Settings}
 use Rattle.cil_conditions.specs.Spelled.{AreSameSettings}
 use Rattle.cil_tables.specs.Table.{Table, boolean_names}
@@ -43,13 +44,19 @@ CoverAs xs s t keyword rules = (on : ℕ → Bool) (v : Settings) → AreSameSet
     → SamePermission xs s t number bit c permission
     → HasCover on rules n.kind m.kind number bit ↔ IsCovered xs s v keyword a.kind b.kind c permission
 
--- the tables admit the contexts that are valid, and their rules cover what those of the policy cover
+-- they bar the changes of role that the policy bars
+abbrev pub BarsAs : List Item → OptSet → Table → Type 0
+BarsAs xs s t = (n m : Numbers) (a b : Context) (number bit : ℕ) (c : Symbol) (permission : List ℕ) → SameContext xs s t n a → SameContext xs s t m b → SamePermission xs s t number bit c permission
+    → Bars t n m number bit ↔ IsBarred xs s a b c permission
+
+-- the tables admit the contexts that are valid, their rules cover what those of the policy cover, and they bar the same changes of role
 pub record Agrees (xs : List Item) (s : OptSet) (t : Table) : Type 0 where
   pub read : (text : List ℕ) (n : Numbers) → IsContext t text n → (c : Context) × IsValid xs s text c × SameContext xs s t n c
   pub found : (text : List ℕ) (c : Context) → IsValid xs s text c → (n : Numbers) × IsContext t text n × SameContext xs s t n c
   pub allow : CoverAs xs s t keywords.Allow t.rules.allow
   pub auditallow : CoverAs xs s t keywords.AuditAllow t.rules.auditallow
   pub dontaudit : CoverAs xs s t keywords.DontAudit t.rules.dontaudit
+  pub change : BarsAs xs s t
 
 -- modules compile to the tables: they have no fault, the tables are those of their policy, and they say what it says
 pub record Compiles (modules : List (List ℕ)) (t : Table) : Type 0 where

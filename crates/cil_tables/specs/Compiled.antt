@@ -41,4 +41,5 @@ pub record IsTable (xs : List Item) (s : OptSet) (t : Table) : Type 0 where
   pub booleans : AreBooleans xs s t.booleans
   pub user_roles : Lists link_cmp (IsLink xs s keywords.UserRole kinds.User kinds.Role t.users t.roles) t.user_roles
   pub role_types : Lists link_cmp (IsLink xs s keywords.RoleType kinds.Role kinds.Type_ t.roles t.types) t.role_types
+  pub role_allows : Lists link_cmp (IsLink xs s keywords.RoleAllow kinds.Role kinds.Role t.roles t.roles) t.role_allows
   pub rules : AreRules xs s t.types t.classes (boolean_names t.booleans) t.rules

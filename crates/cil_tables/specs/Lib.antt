@@ -14,6 +14,7 @@ pub mod Laws
 pub mod Links
 pub mod Meaning
 pub mod Named
+pub mod RoleChanges
 pub mod Sections
 pub mod SetsStep
 pub mod Standings

@@ -1,4 +1,5 @@
--- The pairs that statements join, by numbers: users with roles, and roles with types. This project's profile.
+-- The pairs that statements join, by numbers: users with roles, roles with types, and roles with those to which they may change. This
+-- project's profile.
 use Rattle.std.specs.Prelude.{ℕ, List, ◌≡◌, ◌↔◌, Contains, true}
 use Rattle.cil_syntax.specs.declared.kind.Keyword.{Keyword}
 use Rattle.cil_syntax.specs.declared.kind.Kind.{Kind}

@@ -1,5 +1,5 @@
 -- How the tables are read: which contexts they admit, and what they answer. The SELinux Notebook, "Security Context" and
--- "Computing Access Decisions"; CIL Reference Guide, "Role Statements" on object_r.
+-- "Computing Access Decisions"; CIL Reference Guide, "Role Statements" on object_r, and "roleallow".
 use Rattle.std.specs.Prelude.{◌≡◌, ◌⊎◌, ℕ, ◌==◌, Bool, List, [], ◌∷◌, codes, Contains, slice_get, Some}
 use Rattle.std.specs.List.{slice_split}
 use Rattle.cil_tables.specs.declared.context.Context.{Context}
@@ -51,8 +51,31 @@ pub record IsPermissionAt (t : Table) (class_ bit : ℕ) (name : List ℕ) : Typ
   pub is_row : slice_get t.classes class_ ≡ Some row
   pub permission : slice_get row.permissions bit ≡ Some name
 
+-- ---- changes of role
+
+-- the class of processes: the global one, since no name has a dot
+abbrev pub process : List ℕ
+process = codes "process"
+
+-- the permissions by which a process gets another context: for a new program, and by its own will
+abbrev pub IsTransition : List ℕ → Type 0
+IsTransition permission = (permission ≡ codes "transition") ⊎ (permission ≡ codes "dyntransition")
+
+-- the permission of the bit would change the role of a process, and the tables do not let that role change to the other
+pub record Bars (t : Table) (source target : Context) (class_ bit : ℕ) : Type 0 where
+  pub row : Class
+  pub is_row : slice_get t.classes class_ ≡ Some row
+  pub of_process : row.name ≡ process
+  pub permission : List ℕ
+  pub is_permission : slice_get row.permissions bit ≡ Some permission
+  pub transition : IsTransition permission
+  pub changes : source.role ≡ target.role → ⊥
+  pub not_let : Contains t.role_allows record { holder = source.role; held = target.role } → ⊥
+
 -- ---- decisions
 
--- the tables permit it between two contexts, where these booleans are on: some rule of them covers the permission of the bit
+-- the tables permit it between two contexts, where these booleans are on: some rule of them covers the permission of the bit, and it
+-- makes no change of role that they bar
 pub record Permits (t : Table) (on : ℕ → Bool) (source target : Context) (class_ bit : ℕ) : Type 0 where
   pub covered : HasCover on t.rules.allow source.kind target.kind class_ bit
+  pub change : Bars t source target class_ bit → ⊥

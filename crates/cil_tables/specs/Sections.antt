@@ -25,6 +25,7 @@ use Rattle.cil_tables.specs.Table.{Table, alias_cmp, link_cmp}
 pub record AreGiven (xs : List Item) (s : OptSet) (names : Kind → List (List ℕ)) (classes : List Class) (g : Given) : Type 0 where
   pub user_roles : Lists link_cmp (IsLink xs s keywords.UserRole kinds.User kinds.Role (names kinds.User) (names kinds.Role)) g.user_roles
   pub role_types : Lists link_cmp (IsLink xs s keywords.RoleType kinds.Role kinds.Type_ (names kinds.Role) (names kinds.Type_)) g.role_types
+  pub role_allows : Lists link_cmp (IsLink xs s keywords.RoleAllow kinds.Role kinds.Role (names kinds.Role) (names kinds.Role)) g.role_allows
   pub type_aliases : Lists alias_cmp (IsAlias xs s (names kinds.Type_)) g.type_aliases.items
   pub rules : AreRules xs s (names kinds.Type_) classes (names kinds.Boolean) g.rules
 
@@ -50,5 +51,6 @@ table_from names classes booleans given = record {
   booleans = booleans;
   user_roles = given.user_roles;
   role_types = given.role_types;
+  role_allows = given.role_allows;
   rules = given.rules;
 }

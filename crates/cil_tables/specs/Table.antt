@@ -26,6 +26,7 @@ pub record Table : Type 0 where
   pub booleans : List Boolean
   pub user_roles : List Link
   pub role_types : List Link
+  pub role_allows : List Link
   pub rules : RuleSections
 
 -- aliases stand in byte order of their names
@@ -78,3 +79,4 @@ pub record IsOrderly (t : Table) : Type 0 where
   pub each_class : (c : Class) → Contains t.classes c → IsOrderlyClass c
   pub user_roles : IsStrictlySortedBy link_cmp t.user_roles
   pub role_types : IsStrictlySortedBy link_cmp t.role_types
+  pub role_allows : IsStrictlySortedBy link_cmp t.role_allows

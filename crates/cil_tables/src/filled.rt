@@ -88,6 +88,7 @@ pub(crate) fn tables_from(numbering: Numbering, classes: Classes, filled: Filled
     let Given {
         user_roles,
         role_types,
+        role_allows,
         type_aliases,
         rules,
     } = given;
@@ -100,6 +101,7 @@ pub(crate) fn tables_from(numbering: Numbering, classes: Classes, filled: Filled
         booleans,
         user_roles,
         role_types,
+        role_allows,
         rules,
     }
 }

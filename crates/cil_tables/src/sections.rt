@@ -42,6 +42,8 @@ pub struct Given {
     pub user_roles: Links,
     /// The roles with their types.
     pub role_types: Links,
+    /// The roles with those to which they may change.
+    pub role_allows: Links,
     /// The aliases of types.
     pub type_aliases: Vec<Alias>,
     /// The rules, each section with its index.
@@ -72,11 +74,13 @@ pub(crate) fn given_of(
     let types = stand.types.as_slice();
     let user_roles = links_of(alloc, instances, known, USER_ROLES, users, roles)?;
     let role_types = links_of(alloc, instances, known, ROLE_TYPES, roles, types)?;
+    let role_allows = links_of(alloc, instances, known, ROLE_ALLOWS, roles, roles)?;
     let type_aliases = aliases_of(alloc, known, types)?;
     let rules = rules_given(alloc, instances, known, types, classes, permissions)?;
     Ok(Given {
         user_roles,
         role_types,
+        role_allows,
         type_aliases,
         rules,
     })
@@ -179,4 +183,11 @@ const ROLE_TYPES: Joins = Joins {
     keyword: Keyword::RoleType,
     holder_kind: Kind::Role,
     held_kind: Kind::Type_,
+};
+
+/// The statements that let roles change to others.
+const ROLE_ALLOWS: Joins = Joins {
+    keyword: Keyword::RoleAllow,
+    holder_kind: Kind::Role,
+    held_kind: Kind::Role,
 };

@@ -15,12 +15,12 @@ use cil_index::Sections;
 use std::cmp::Ordering;
 use std::marker::Model;
 
-/// A user that has a role, or a role that has a type.
+/// A user that has a role, a role that has a type, or a role that may change to another.
 #[derive(Clone, Copy, Debug)]
 pub struct Link {
     /// The number of the user, or of the role.
     pub holder: usize,
-    /// The number of the role, or of the type.
+    /// The number of the role, of the type, or of the other role.
     pub held: usize,
 }
 
@@ -134,6 +134,7 @@ pub struct Tables {
     pub(crate) booleans: Vec<Boolean>,
     pub(crate) user_roles: Links,
     pub(crate) role_types: Links,
+    pub(crate) role_allows: Links,
     pub(crate) rules: Sections,
 }
 
@@ -151,6 +152,7 @@ impl Model for Tables {
       booleans = a.booleans.items;
       user_roles = a.user_roles;
       role_types = a.role_types;
+      role_allows = a.role_allows;
       rules = a.rules;
     } };
 
@@ -163,6 +165,7 @@ impl Model for Tables {
       booleans = a.booleans.items;
       user_roles = a.user_roles;
       role_types = a.role_types;
+      role_allows = a.role_allows;
       rules = a.rules;
     } };
 }
@@ -233,6 +236,14 @@ impl Tables {
         ensures orderly { IsOrderly self.now }
     {
         &self.role_types
+    }
+
+    /// The roles with those to which they may change.
+    pub fn role_allows(&self) -> &Links
+        ensures links { result.now ≡ self.now.role_allows }
+        ensures orderly { IsOrderly self.now }
+    {
+        &self.role_allows
     }
 
     /// The rules, each section with its index.

@@ -15,6 +15,7 @@ invariant_of-result c = record {
   each_class = c.requires.each_class;
   user_roles = c.requires.user_roles;
   role_types = c.requires.role_types;
+  role_allows = c.requires.role_allows;
 }
 
 pub returns : goal.returns
@@ -27,5 +28,6 @@ returns c = λ i. record {
   booleans = c.args.filled.booleans.items;
   user_roles = c.args.filled.given.user_roles;
   role_types = c.args.filled.given.role_types;
+  role_allows = c.args.filled.given.role_allows;
   rules = c.args.filled.given.rules;
 }

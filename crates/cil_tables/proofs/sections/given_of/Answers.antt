@@ -14,6 +14,7 @@ returns c = λ names known apart stand classes given.
     record {
       user_roles = c.in_ok-user_roles.ensures names known users roles;
       role_types = c.in_ok-role_types.ensures names known roles types;
+      role_allows = c.in_ok-role_allows.ensures names known roles roles;
       type_aliases = c.in_ok-type_aliases.ensures xs names known (subst (HaveMembers k xs names kinds.Type_) (sym c.as_slice-types.ensures.value) stand.aliases);
       rules = c.in_ok-rules.ensures names known apart types classes given;
     }
