@@ -62,7 +62,7 @@ const HELP: &[(&[&str], &str)] = &[
     ),
     (
         &["--help"],
-        "neverallow, boolean and booleanif; block, blockabstract, blockinherit,",
+        "roleallow, allow, auditallow, dontaudit, neverallow, boolean and booleanif;",
     ),
     (&["help"], "Example:"),
     (&["session", "-h"], "Usage: cilhost session [FILE]..."),

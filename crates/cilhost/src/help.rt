@@ -11,8 +11,8 @@ modules, compiles them into a policy, and then answers which permissions a proce
 context has on an object in another. The answers do not depend on the order of the modules.
 
 cilhost accepts the statements type, class, common, classcommon, role, user, roletype, userrole,
-allow, auditallow, dontaudit, neverallow, boolean and booleanif; block, blockabstract, blockinherit,
-macro, call and optional; typealias, typealiasactual, typeattribute, typeattributeset,
+roleallow, allow, auditallow, dontaudit, neverallow, boolean and booleanif; block, blockabstract,
+blockinherit, macro, call and optional; typealias, typealiasactual, typeattribute, typeattributeset,
 roleattribute, roleattributeset, userattribute and userattributeset; and classmap, classmapping,
 classpermission and classpermissionset. Of typetransition, typechange, typemember, roletransition,
 expandtypeattribute and classorder the names are checked, and they have no effect. Statements that
@@ -36,8 +36,8 @@ The FILEs are installed from left to right. Then requests are read from standard
 and each reply is written to standard output, until QUIT or the end of the input.
 
 A FILE may have the statements type, class, common, classcommon, role, user, roletype, userrole,
-allow, auditallow, dontaudit, neverallow, boolean and booleanif; block, blockabstract, blockinherit,
-macro, call and optional; typealias, typealiasactual, typeattribute, typeattributeset,
+roleallow, allow, auditallow, dontaudit, neverallow, boolean and booleanif; block, blockabstract,
+blockinherit, macro, call and optional; typealias, typealiasactual, typeattribute, typeattributeset,
 roleattribute, roleattributeset, userattribute and userattributeset; and classmap, classmapping,
 classpermission and classpermissionset. Of typetransition, typechange, typemember, roletransition,
 expandtypeattribute and classorder the names are checked, and they have no effect. Statements that
@@ -119,7 +119,8 @@ pub const REQUESTS: &str = "Requests:
                           in the context target. A context is user:role:type, where a type t of
                           block b is b.t, and an alias stands for its type. Reply: OK, then the
                           permissions that are allowed, those audited when allowed, and those
-                          audited when denied (- for none), or ERR
+                          audited when denied (- for none), or ERR. A process changes its role only
+                          where a roleallow lets it
   CHECK source target class permission
                           Whether AV of the first three lists this permission as allowed. Reply:
                           OK yes, OK no, or ERR
