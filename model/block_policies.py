@@ -10,7 +10,7 @@ from instances import Instances
 from names import names_of_all
 from pieces import FLAT, LATER, ODD, UNKNOWN, Quoted, bent, module_of, often, set_of
 from classes import MOST_PERMISSIONS
-from policy import Policy
+from policy import CHANGES, PROCESS, Policy
 from texts import RESERVED, Node
 
 BLOCKS = [b"k", b"l", b"n", b"a", b"k-a"]
@@ -19,10 +19,10 @@ NAMES = {
     b"type": [b"a", b"b", b"c", b"t", b"k"],
     b"role": [b"r", b"q", b"a", b"object_r"],
     b"user": [b"u", b"v", b"a"],
-    b"class": [b"file", b"dir", b"a"],
-    b"common": [b"file", b"dir", b"k", b"c"],
+    b"class": [b"file", b"dir", b"a", PROCESS],
+    b"common": [b"file", b"dir", b"k", b"c", PROCESS],
 }
-PERMISSIONS = [b"read", b"open", b"write", b"a"]
+PERMISSIONS = [b"read", b"open", b"write", b"a", b"transition"]
 
 # What commons list, and most classes do not.
 SHARED = [b"ioctl", b"lock", b"map", b"a-", b"write", b"read"]
@@ -35,7 +35,7 @@ MARKS = [b"p%d" % i for i in range(20)]
 KINDS = [b"type", b"type", b"type", b"role", b"user", b"class", b"class", b"name", b"string"]
 WRONG_ARGUMENTS = [Quoted(b"a"), Quoted(b""), b"all", b"self", b"1x", b"a..b", b".", [], [b"a"], [[b"a"], Quoted(b"b")]]
 NOWHERE = [b"nobody", b"k.a", b".k", b"l.l.a", b"a.k"]
-RULES = {b"roletype": (b"role", b"type"), b"userrole": (b"user", b"role")}
+RULES = {b"roletype": (b"role", b"type"), b"userrole": (b"user", b"role"), b"roleallow": (b"role", b"role")}
 WORDS = [*FLAT, *sorted(table.ACCEPTED.statements & table.BLOCK_ROWS.keys()), b"call", b"optional", b"filecon", *LATER, *UNKNOWN]
 
 MOST_MENDINGS = 12
@@ -220,7 +220,7 @@ class Draft:
         if kind in (b"class", b"common"):
             listed = self.lists.get((kind, path))
             if listed is None or self.goes_wrong("classes", 0.5):
-                listed = self.listed() if kind == b"class" else self.listed_in_common()
+                listed = self.listed(name) if kind == b"class" else self.listed_in_common()
             self.lists[kind, path] = listed
             if kind == b"class":
                 self.permissions[path] = listed
@@ -230,15 +230,17 @@ class Draft:
         spot.own.append((kind, name))
         self.declared[kind].append(path)
 
-    def listed(self):
+    def listed(self, name):
         if often(self.rng, 0.01) or self.goes_wrong("widths", 0.5):
             many = [b"p%d" % i for i in range(33 if self.wrong == "widths" else 32)]
             self.rng.shuffle(many)
             return many + self.rng.sample(many, self.rng.randrange(3))
-        return [*MARKS, b"read", *self.rng.sample(PERMISSIONS, self.rng.randrange(0, 4))]
+        changes = self.rng.sample(CHANGES, self.rng.choice([0, 1, 2, 2]) if name == PROCESS else 0)
+        return [*MARKS, b"read", *self.rng.sample(PERMISSIONS, self.rng.randrange(0, 4)), *changes]
 
     def listed_in_common(self):
-        return self.rng.sample(SHARED, self.rng.randrange(1, 5))
+        changes = self.rng.sample(CHANGES, self.rng.choice([0, 0, 1, 2]))
+        return self.rng.sample(SHARED, self.rng.randrange(1, 5)) + changes
 
     # ---- what goes by words
 
@@ -329,9 +331,13 @@ class Draft:
         names = [name for _, name in spot.parameters]
         return self.rng.choice([b"a", b"all", b"1x", b".", Quoted(b"a b"), *names, *names])
 
+    def rule_spot(self):
+        """A body for a rule."""
+        return self.spot(may_be_macro=often(self.rng, 0.55))
+
     def add_rule(self):
-        spot = self.spot(may_be_macro=often(self.rng, 0.55))
-        keyword = self.rng.choice([b"roletype", b"userrole", b"allow", b"allow", b"allow", b"allow"])
+        spot = self.rule_spot()
+        keyword = self.rng.choice([*RULES, *[b"allow"] * 5])
         if keyword != b"allow":
             spot.body.append([keyword, *(self.word(spot, kind) for kind in RULES[keyword])])
             return
@@ -349,6 +355,8 @@ class Draft:
         if b"p0" in listed and often(self.rng, 0.95):
             self.rules += 1
             permissions.append(MARKS[self.rules % len(MARKS)])
+        if class_word.split(b".")[-1] == PROCESS and often(self.rng, 0.6):
+            permissions += [each for each in CHANGES if each in listed and often(self.rng, 0.8)]
         if self.goes_wrong("words", 0.1):
             permissions.append(self.rng.choice([b"nope", b"write", [b"open", [b"a"]]]))
         if listed and often(self.rng, 0.3):
@@ -366,6 +374,57 @@ class Draft:
         self.rng.shuffle(some)
         made = set_of(self.rng, some)
         return made if often(self.rng, 0.2) else [self.rng.choice([b"and", b"and", b"xor"]), some[:4], made]
+
+    # ---- changes of role
+
+    def add_process(self):
+        """A class from whose permissions a decision may take some, with a common that has such ones too at times."""
+        spot = self.spot(deepest=2)
+        self.declare(spot, b"class", PROCESS)
+        if often(self.rng, 0.4) and (spot.space, PROCESS) not in self.shares and (b"class", PROCESS) in spot.own:
+            common = self.rng.choice(self.NAMES[b"common"])
+            self.declare(spot, b"common", common)
+            self.shares.add((spot.space, PROCESS))
+            spot.body.append([b"classcommon", PROCESS, common])
+        if often(self.rng, 0.6):
+            spot.body.append([b"allow", b".a", b".b", [PROCESS, self.permissions_on(spot, PROCESS)]])
+
+    def add_changes(self):
+        """Some roles of one user and of types, of the same names in places; rules on classes called process; roleallows."""
+        top, near = self.spot(deepest=0), self.spot(deepest=2)
+        if often(self.rng, 0.4):
+            self.declare(near, b"role", self.rng.choice([b"r", b"q"]))
+            near.body.append([b"roleallow", *self.rng.sample([b"r", b"q", b".r", b".q"], 2)])
+        roles = [b"." + b".".join(path) for path in self.declared[b"role"]]
+        roles = self.rng.sample(roles, min(len(roles), self.rng.choice([2, 3, 3, 4]))) or [b".r"]
+        for role in roles:
+            top.body.append([b"userrole", b".u", role])
+            for name in self.rng.choice([[b".a", b".b"], [b".a"], [b".b"]]):
+                top.body.append([b"roletype", role, name])
+        for spot in [top, *(self.rule_spot() for _ in range(self.rng.choice([1, 2, 3])))]:
+            ends = [self.rng.choice([b".a", b".b", self.word(spot, b"type")]) for _ in range(2)]
+            class_word = self.rng.choice([b"." + PROCESS, b"." + PROCESS, PROCESS, self.word(spot, b"class")])
+            spot.body.append([b"allow", *ends, [class_word, self.permissions_on(spot, class_word)]])
+        for _ in range(self.rng.choice([0, 1, 2, 3])):
+            spot = self.spot(may_be_macro=often(self.rng, 0.5))
+            ends = [self.rng.choice([*roles, self.word(spot, b"role")]) for _ in range(2)]
+            spot.body.append([b"roleallow", *ends])
+        if often(self.rng, 0.35):
+            self.add_change_by_call()
+
+    def add_change_by_call(self):
+        """A macro that lets a role change, one that it gets or one of its own words, and calls of it."""
+        names = self.rng.sample([b"x", b"y", b"r", b"q"], self.rng.choice([1, 2]))
+        macro = self.macro_in(self.spot(), [(b"role", name) for name in names])
+        if not macro:
+            return
+        path = self.macros[-1][0]
+        ends = [*names, self.rng.choice([b"r", b".r", b"q", self.word(macro, b"role")])]
+        self.rng.shuffle(ends)
+        macro.body.append([b"roleallow", *ends[:2]])
+        for _ in range(self.rng.choice([1, 2])):
+            spot = self.spot(may_be_macro=often(self.rng, 0.3))
+            spot.body.append(self.call_of(spot, path, macro))
 
     def add_diamond(self):
         """A block with a macro, two blocks that inherit it, and a body that inherits these and calls the macro."""
@@ -459,6 +518,9 @@ class Draft:
         for kind, name in (*types, (b"role", b"r"), (b"user", b"u"), (b"class", b"file")):
             if often(self.rng, 0.95):
                 self.declare(spot, kind, name)
+        for kind, name in ((b"role", b"q"), (b"class", PROCESS)):
+            if often(self.rng, 0.85):
+                self.declare(spot, kind, name)
 
     def add_several(self, add, most):
         for _ in range(self.rng.randrange(most + 1)):
@@ -477,10 +539,14 @@ class Draft:
             self.add_several(add, int(most * size))
         if often(self.rng, 0.03) or self.goes_wrong("widths"):
             self.add_full_class()
+        if often(self.rng, 0.3):
+            self.add_process()
         self.learn()
         self.add_several(self.add_call, int(7 * size))
         self.learn()
         self.add_several(self.add_rule, int(16 * size))
+        if often(self.rng, 0.5):
+            self.add_changes()
         self.add_last()
 
     def add_last(self):

@@ -2,10 +2,15 @@
 from block_policies import NAMES, Draft
 from faults import printed
 from pieces import bundle_of, import_bundle, install, often
+from policy import CHANGES, PROCESS
 from rules import targets_of
 
 OBJECT_ROLE = b"object_r"
 MOST_ASKED = 12
+
+# So many queries are asked for changes of role, and so many are made for one rule.
+MOST_CHANGES = 6
+MOST_OF_A_RULE = 3
 
 
 def blocks(rng):
@@ -46,7 +51,9 @@ def queries(rng, policy):
     if len(asked) > MOST_ASKED:
         asked = rng.sample(asked, MOST_ASKED)
     of_rules = [b"AV %s %s %s\n" % (*(any_context(rng, policy, each) for each in ends), name) for *ends, name in asked]
-    return of_rules + [query(rng, policy, asked) for _ in range(rng.randrange(2, 6))]
+    of_changes = changes(rng, policy)
+    of_changes = rng.sample(of_changes, min(len(of_changes), MOST_CHANGES))
+    return of_rules + [query(rng, policy, asked) for _ in range(rng.randrange(2, 6))] + of_changes
 
 
 def asked_of(policy):
@@ -90,6 +97,54 @@ def context(rng, policy, type_name):
     else:
         user, role = rng.choice(users), rng.choice([*sorted(policy.names[b"role"]), b"k.object_r"])
     return b":".join((user, role, type_name))
+
+
+# ---- changes of role
+
+
+def changes(rng, policy, wanted=()):
+    """Queries of contexts whose roles differ, for what rules give of changes of role on classes called process. Roles that
+    a roleallow has, or the other way round, and those that are wanted, are asked for more than others.
+    """
+    liked = {*policy.pairs[b"roleallow"], *wanted}
+    liked |= {(target, source) for source, target in liked}
+    made = []
+    for rule in policy.rules:
+        classes = sorted({
+            of_class for of_class, permission in rule.pairs if is_process(of_class) and permission in CHANGES
+        })
+        for _ in range(MOST_OF_A_RULE if classes and rule.sources else 0):
+            source = rng.choice(sorted(rule.sources))
+            targets = sorted(targets_of(rule, source))
+            ends = targets and changing(rng, policy, source, rng.choice(targets), liked)
+            if ends:
+                made.append(b"AV %s %s %s\n" % (*ends, rng.choice(classes)))
+    return made
+
+
+def is_process(class_name):
+    return class_name.split(b".")[-1] == PROCESS
+
+
+def changing(rng, policy, source, target, liked):
+    """Contexts of two types whose roles differ, or nothing: half of the time of roles that are liked, if there are such."""
+    found = [
+        (one, other)
+        for one in valid_contexts(policy, source) for other in valid_contexts(policy, target) if one[1] != other[1]
+    ]
+    known = [(one, other) for one, other in found if (one[1], other[1]) in liked]
+    if not found:
+        return None
+    return [b":".join(each) for each in rng.choice(known if known and often(rng, 0.5) else found)]
+
+
+def valid_contexts(policy, type_name):
+    """The valid contexts of a type, those of the role that has all types for one user alone."""
+    made = [
+        (user, role, type_name) for user, role in sorted(policy.pairs[b"userrole"])
+        if (role, type_name) in policy.pairs[b"roletype"] and role != OBJECT_ROLE
+    ]
+    return made + [(user, OBJECT_ROLE, type_name) for user in sorted(policy.names[b"user"])[:1]]
 
 
 # ---- over a million instances

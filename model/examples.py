@@ -291,7 +291,7 @@ def sort_key(line):
 # The files of rows/ whose rows run over the model too.
 ROWS = [
     "arguments.session", "attributes.session", "audit.session", "booleans.session", "checks.session", "maps.session",
-    "neverallow.session", "transitions.session",
+    "neverallow.session", "roles.session", "transitions.session",
 ]
 
 

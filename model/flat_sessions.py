@@ -7,6 +7,7 @@ from pieces import (
     statements_of_any_kind
 )
 from classes import MOST_PERMISSIONS
+from policy import CHANGES, PROCESS
 
 # ---- policies that load
 
@@ -19,9 +20,11 @@ class Names:
         self.types, self.users, self.roles = some(4), some(3), [*some(3), b"object_r"]
         self.commons = {name: shared_list(rng) for name in some(2)} if often(rng, 0.6) else {}
         self.classes, self.shares = {}, {}
-        for name in some(3):
+        chosen = some(3)
+        chosen = [*chosen[1:], PROCESS] if PROCESS not in chosen and often(rng, 0.4) else chosen
+        for name in chosen:
             many = [b"p%d" % i for i in range(rng.choice([31, 32]))]
-            few = rng.sample(PERMISSIONS, rng.randrange(0, 5))
+            few = rng.sample(PERMISSIONS, rng.randrange(0, 5)) + rng.sample(CHANGES, 2 * (name == PROCESS))
             self.classes[name] = many if often(rng, 0.15) else few + few[:1] * often(rng, 0.2)
             if self.commons and often(rng, 0.6):
                 self.share(name, rng.choice(list(self.commons)))
@@ -66,8 +69,8 @@ def rule(rng, names):
     return [keyword, dotted(rng, rng.choice(names.types)), target, [dotted(rng, name), permissions]]
 
 
-def pairs(rng, keyword, first, second):
-    return [[keyword, dotted(rng, one), dotted(rng, other)] for one in first for other in second if often(rng, 0.6)]
+def pairs(rng, keyword, first, second, chance=0.6):
+    return [[keyword, dotted(rng, one), dotted(rng, other)] for one in first for other in second if often(rng, chance)]
 
 
 def policy(rng, names):
@@ -77,6 +80,7 @@ def policy(rng, names):
     made += [[b"common", name, listed] for name, listed in names.commons.items()]
     made += [[b"classcommon", *(dotted(rng, each) for each in shared)] for shared in names.shares.items()]
     made += pairs(rng, b"userrole", names.users, names.roles) + pairs(rng, b"roletype", names.roles, names.types)
+    made += pairs(rng, b"roleallow", names.roles, names.roles, 0.3)
     return made + [rule(rng, names) for _ in range(rng.choice([0, 1, 3, 8, 14]))]
 
 

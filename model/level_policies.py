@@ -114,8 +114,7 @@ class LevelDraft(StageDraft):
     def add_level_statement(self):
         keyword = self.rng.choice([
             b"userlevel", b"userrange", b"userrange", b"rangetransition", b"sensitivitycategory", b"sensitivityorder",
-            b"categoryorder", b"sensitivityaliasactual", b"categoryaliasactual", b"constrain", b"mlsconstrain", b"roleallow",
-            b"mls",
+            b"categoryorder", b"sensitivityaliasactual", b"categoryaliasactual", b"constrain", b"mlsconstrain", b"mls",
         ])
         spot = self.spot(may_be_macro=keyword not in BLOCK_ROWS and often(self.rng, 0.7))
         said = {
@@ -131,7 +130,6 @@ class LevelDraft(StageDraft):
             b"categoryaliasactual": lambda: [self.word(spot, b"categoryalias"), self.category(spot)],
             b"constrain": lambda: [self.class_permission(spot), self.expression(spot, False)],
             b"mlsconstrain": lambda: [self.class_permission(spot), self.expression(spot, True)],
-            b"roleallow": lambda: [self.word(spot, b"role"), self.word(spot, b"role")],
             b"mls": lambda: [self.rng.choice([b"true", b"false"])],
         }[keyword]()
         spot.body.append([keyword, *said])

@@ -18,6 +18,7 @@ MOST_LINKS = 5
 
 # Names that are there in most policies.
 BASE_NAMES = {b"type": BASE_TYPES, b"role": [b"r"], b"user": [b"u"]}
+BASE_WORDS = {b"type": b".a", b"role": b".r", b"user": b".u"}
 
 
 class OptionalSpot(Spot):
@@ -81,6 +82,8 @@ class OptionalDraft(Draft):
         """A statement with a word."""
         if kind == b"type" and often(self.rng, 0.6):
             self.mark(spot, word)
+        elif kind == b"role" and often(self.rng, 0.2):
+            spot.body.append([b"roleallow", *self.rng.sample([word, b".r"], 2)])
         elif kind == b"user" or (kind == b"role" and often(self.rng, 0.5)):
             spot.body.append([b"userrole", *((word, b".r") if kind == b"user" else (b".u", word))])
         else:
@@ -215,8 +218,10 @@ class OptionalDraft(Draft):
             permission = self.rng.choice([b"read", *MARKS[:3], b"nope", *SHARED])
             made.body.append([b"allow", b".a", b"self", [b"x", [permission]]])
         else:
-            keyword = b"userrole" if kind == b"user" else b"roletype"
-            words = [b"x" if of == kind else b"." + {b"type": b"a", b"role": b"r"}[of] for of in RULES[keyword]]
+            keyword = self.rng.choice([each for each, kinds in RULES.items() if kind in kinds])
+            words = [b"x" if of == kind else BASE_WORDS[of] for of in RULES[keyword]]
+            if keyword == b"roleallow":
+                words[self.rng.randrange(2)] = BASE_WORDS[kind]
             made.body.append([keyword, *words])
         for _ in range(self.rng.choice([1, 2])):
             spot = self.spot(may_be_macro=often(self.rng, 0.6))
@@ -237,10 +242,14 @@ class OptionalDraft(Draft):
                 add()
         for add, most in ((self.add_declaration, 10), (self.add_inherit, 3), (self.add_share, 3)):
             self.add_several(add, int(most * size))
+        if often(self.rng, 0.3):
+            self.add_process()
         self.learn()
         self.add_several(self.add_call, int(6 * size))
         self.learn()
         self.add_several(self.add_rule, int(12 * size))
+        if often(self.rng, 0.3):
+            self.add_changes()
         if self.goes_wrong("calls", 0.4):
             self.add_ring()
         self.wrap()

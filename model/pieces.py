@@ -4,10 +4,10 @@ from texts import RESERVED
 
 BLANK = [b" ", b"\t", b"\n", b"\r"]
 NAMES = [b"a", b"b", b"c", b"_", b"a-b", b"A", b"file", b"process", b"type", b"in", b"object_r"]
-PERMISSIONS = [b"read", b"open", b"write", b"Read", b"_x", b"a-", b"aa"]
+PERMISSIONS = [b"read", b"open", b"write", b"Read", b"_x", b"a-", b"aa", b"transition", b"dyntransition"]
 LATER = sorted(table.LEFT_OUT | table.WHOLE.statements - table.ACCEPTED.statements)
 RULES = [b"allow", b"auditallow", b"dontaudit"]
-FLAT = [*RULES, b"class", b"classcommon", b"common", b"role", b"roletype", b"type", b"user", b"userrole"]
+FLAT = [*RULES, b"class", b"classcommon", b"common", b"role", b"roleallow", b"roletype", b"type", b"user", b"userrole"]
 UNKNOWN = [b"foo", b"Type", b"types", b"allows", b"typ", b"inn", b"1type", b".type", b"-", b"attribute"]
 ODD = [
     b".a", b"a.b", b"..a", b"a.", b".", b"a..b", b".a.b", b"1a", b"-a", b"-", b"_", b"a'", b"a/b", b"a:b", b"a,b", b"*",

@@ -13,6 +13,10 @@ from table import ACCEPTED
 MOST_BOOLEANS = 4096
 MOST_CLASSES = 1024
 
+# The permissions of the global class of this name that a decision has only where the role stays, or may change so.
+PROCESS = b"process"
+CHANGES = b"transition", b"dyntransition"
+
 
 class Policy:
     """What trees of modules say, by printed names; or the faults of the first step that has some."""
@@ -40,6 +44,7 @@ class Policy:
         self.pairs = {
             b"roletype": self.linked(b"roletype", roles, types),
             b"userrole": self.linked(b"userrole", users, roles),
+            b"roleallow": self.linked(b"roleallow", roles, roles),
         }
         self.aliases = types.aliases()
         permissions = Permissions(names, self.enabled)
@@ -91,13 +96,20 @@ class Policy:
             if is_active(rule, self.all_names, settings)
         }
 
+    def allowed(self, source, target, class_name, settings):
+        """The permissions that allow rules give for two contexts, without the changes of role that no roleallow has."""
+        allowed = self.covered(b"allow", source, target, class_name, settings)
+        source_role, target_role = (context.split(b":")[1] for context in (source, target))
+        may_change = source_role == target_role or (source_role, target_role) in self.pairs[b"roleallow"]
+        return allowed if may_change or class_name != PROCESS else allowed.difference(CHANGES)
+
     def query(self, source, target, class_name, settings):
         refusal = self.refusal(source, target, class_name)
         if refusal:
             return refusal
-        allowed, audited, quiet = (
-            self.covered(keyword, source, target, class_name, settings)
-            for keyword in (b"allow", b"auditallow", b"dontaudit")
+        allowed = self.allowed(source, target, class_name, settings)
+        audited, quiet = (
+            self.covered(keyword, source, target, class_name, settings) for keyword in (b"auditallow", b"dontaudit")
         )
         return b"OK %s %s %s" % (joined(allowed), joined(audited), joined(self.permissions[class_name] - quiet))
 
@@ -107,7 +119,7 @@ class Policy:
             return refusal
         if permission not in self.permissions[class_name]:
             return b"ERR 74"
-        is_allowed = permission in self.covered(b"allow", source, target, class_name, settings)
+        is_allowed = permission in self.allowed(source, target, class_name, settings)
         return b"OK yes" if is_allowed else b"OK no"
 
 

@@ -653,6 +653,123 @@ TRANSITIONS = [
     ], accepted((AB, READ))),
 ]
 
+CHANGE = (
+    b"(class process (signal transition))(class file (read))(user u)(role r)(role q)(userrole u r)(userrole u q)"
+    b"(type a)(type b)(roletype r a)(roletype q b)(allow a b (process (signal transition)))(allow a b (file (read)))"
+)
+CHANGES = (
+    b"(class process (fork transition dyntransition))(user u)(role r)(role q)(role s)(type a)"
+    b"(roleattribute some)(roleattributeset some (r q s))(userrole u some)(roletype some a)(allow a self (process (all)))"
+)
+CHANGED, STAYED = b"OK signal,transition - signal,transition", b"OK signal - signal,transition"
+FULL = b"OK dyntransition,fork,transition - dyntransition,fork,transition"
+FORKED = b"OK fork - dyntransition,fork,transition"
+
+
+def of_roles(source, target, reply, class_name=b"process"):
+    return b"AV u:%s:a u:%s:a %s" % (source, target, class_name), reply
+
+
+def change(reply, class_name=b"process"):
+    return b"AV u:r:a u:q:b " + class_name, reply
+
+
+ROLES = [
+    ("a role does not change", [CHANGE], accepted(change(STAYED), change(b"OK read - read", b"file"))),
+    ("a role may change", [CHANGE + b"(roleallow r q)"], accepted(change(CHANGED))),
+    ("checks of a change", [CHANGE], accepted(
+        (b"CHECK u:r:a u:q:b process transition", b"OK no"), (b"CHECK u:r:a u:q:b process signal", b"OK yes"),
+        (b"CHECK u:r:a u:q:b process fork", b"ERR 74"),
+    )),
+    ("checks of a change that may be", [CHANGE + b"(roleallow r q)"], accepted(
+        (b"CHECK u:r:a u:q:b process transition", b"OK yes"),
+    )),
+    ("both permissions, from one role to another and not back, and not by two steps", [
+        CHANGES + b"(roleallow r q)(roleallow q s)",
+    ], accepted(
+        of_roles(b"r", b"q", FULL), of_roles(b"q", b"r", FORKED), of_roles(b"r", b"s", FORKED), of_roles(b"r", b"r", FULL),
+    )),
+    ("object_r is a role as others are", [CHANGES + b"(roleallow object_r r)"], accepted(
+        of_roles(b"object_r", b"r", FULL), of_roles(b"r", b"object_r", FORKED), of_roles(b"object_r", b"q", FORKED),
+        of_roles(b"object_r", b"object_r", FULL),
+    )),
+    ("attributes of roles, all has object_r", [
+        CHANGES + b"(roleattribute k)(roleattributeset k (not (q s)))(roleattribute n)(roleallow k q)(roleallow s k)"
+        b"(roleallow n s)(roleallow q n)",
+    ], accepted(
+        of_roles(b"r", b"q", FULL), of_roles(b"object_r", b"q", FULL), of_roles(b"s", b"object_r", FULL),
+        of_roles(b"s", b"r", FULL), of_roles(b"s", b"q", FORKED), of_roles(b"q", b"r", FORKED),
+        of_roles(b"r", b"s", FORKED), of_roles(b"q", b"s", FORKED),
+    )),
+    ("a class process in a block, and one that a block gives", [
+        b"(block n (class process (transition)))(block k (blockinherit n)(class w (transition)))(blockinherit n)(user u)"
+        b"(role r)(role q)(type a)(userrole u r)(userrole u q)(roletype r a)(roletype q a)"
+        b"(allow a a (process (transition)))(allow a a (n.process (transition)))(allow a a (k.process (transition)))",
+    ], accepted(
+        of_roles(b"r", b"q", b"OK - - transition"), of_roles(b"r", b"q", b"OK transition - transition", b"n.process"),
+        of_roles(b"r", b"q", b"OK transition - transition", b"k.process"), of_roles(b"r", b"q", b"OK - - transition", b"k.w"),
+    )),
+    ("a permission of a common", [
+        b"(common c (transition fork))(class process ())(class w ())(classcommon process c)(classcommon w c)(user u)(role r)"
+        b"(role q)(type a)(userrole u r)(userrole u q)(roletype r a)(roletype q a)(allow a a (process (all)))"
+        b"(allow a a (w (all)))",
+    ], accepted(
+        of_roles(b"r", b"q", b"OK fork - fork,transition"),
+        of_roles(b"r", b"q", b"OK fork,transition - fork,transition", b"w"),
+    )),
+    ("permissions of a class map, whatever their names", [
+        CHANGE + b"(classmap m (transition x))(classmapping m transition (process (signal)))"
+        b"(classmapping m x (process (transition)))(allow b a (m (transition x)))(roletype r b)(roletype q a)",
+    ], accepted((b"AV u:r:b u:q:a process", STAYED), (b"AV u:r:b u:r:a process", CHANGED))),
+    ("a class map called process is no class", [
+        b"(class w (transition))(classmap process (transition))(classmapping process transition (w (transition)))(user u)"
+        b"(role r)(role q)(type a)(userrole u r)(userrole u q)(roletype r a)(roletype q a)"
+        b"(allow a a (process (transition)))",
+    ], accepted(
+        of_roles(b"r", b"q", b"OK transition - transition", b"w"), of_roles(b"r", b"q", b"ERR 73"),
+    )),
+    ("audit rules do not ask for roles", [
+        CHANGES + b"(auditallow a a (process (transition)))(dontaudit a a (process (dyntransition)))",
+    ], accepted(of_roles(b"r", b"q", b"OK fork transition fork,transition"))),
+    ("neverallow does not ask for roles", [CHANGE + b"(neverallow a b (process (transition)))"], refused(
+        Never(b"(neverallow", b"(allow", b"a:b:process:transition"),
+    )),
+    ("a rule in a branch", [
+        CHANGE + b"(boolean p false)(booleanif p (true (allow b a (process (all)))))(roletype r b)(roletype q a)",
+    ], accepted(
+        (b"SET p true", b"OK"), (b"AV u:r:b u:q:a process", STAYED), (b"AV u:r:b u:r:a process", CHANGED),
+    )),
+    ("optionals that are in and out", [
+        CHANGES + b"(optional o (roleallow r q))(optional p (roleallow q s)(optional i (roleallow s q))(roleallow q nobody))",
+    ], accepted(
+        of_roles(b"r", b"q", FULL), of_roles(b"q", b"s", FORKED), of_roles(b"s", b"q", FORKED),
+    )),
+    ("a nearer role of the name", [
+        CHANGES + b"(block k (role q)(roleallow r q)(roleallow r .s))(userrole u k.q)(roletype k.q a)",
+    ], accepted(
+        of_roles(b"r", b"k.q", FULL), of_roles(b"r", b"q", FORKED), of_roles(b"r", b"s", FULL),
+        of_roles(b"k.q", b"q", FORKED),
+    )),
+    ("roles as arguments, one of them of the name of a parameter", [
+        CHANGES + b"(macro m ((role r)(role x)) (roleallow x r)(roleallow x s))(call m (q some))(call m (object_r r))",
+    ], accepted(
+        of_roles(b"r", b"q", FULL), of_roles(b"s", b"q", FULL), of_roles(b"q", b"r", FORKED),
+        of_roles(b"q", b"s", FULL), of_roles(b"r", b"object_r", FULL), of_roles(b"s", b"object_r", FORKED),
+    )),
+    ("the words of a roleallow", [FIRST + b"(roleallow r a)(roleallow nobody r)(roleallow r .object_r)"], refused(
+        Fault(41, b"a", b"a)(roleallow n"), Fault(41, b"nobody"),
+    )),
+    ("no list for a role", [FIRST + b"(macro m ((role x)) (roleallow x r))(call m ((r)))"], refused(
+        Fault(35, b"m", b"m ((r)"),
+    )),
+    ("no roleallow in a branch", [FIRST + b"(boolean p true)(booleanif p (true (roleallow r r)))"], refused(
+        Fault(24, b"roleallow", b"(roleallow"),
+    )),
+    ("no roleallow by a call in a branch", [
+        FIRST + b"(boolean p true)(macro m () (roleallow r r))(booleanif p (true (call m)))",
+    ], refused(Fault(37, b"m", b"m)"))),
+]
+
 # The faults of names, shapes and arguments of statements that have no meaning here yet.
 LATER = [
     ("a list and none", [b"(sensitivity s)(level l (s))(level l (s ()))"], refused(
@@ -678,7 +795,8 @@ LATER = [
 
 STAGES = [
     (["sets"], SETS), (["maps"], MAPS), (["maps"], ARGUMENTS), (["maps", "audit"], AUDIT),
-    (["sets", "maps", "booleans"], BOOLEANS), (["sets", "maps", "transitions"], TRANSITIONS), (None, LATER),
+    (["sets", "maps", "booleans"], BOOLEANS), (["sets", "maps", "transitions"], TRANSITIONS),
+    (["sets", "maps", "audit", "booleans", "roles"], ROLES), (None, LATER),
 ]
 LONG = [
     (["sets"], [

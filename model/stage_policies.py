@@ -1,10 +1,11 @@
-"""Random policies with what can be accepted beside today's language: sets, class maps, audit rules, booleans."""
+"""Random policies with what stages add: sets, class maps, audit rules, booleans, changes of role."""
 import copy
 
 import block_policies
 from block_policies import BASE_TYPES, MARKS, RULES, SHARED, Spot, statements_of
 from optional_policies import OptionalDraft, OptionalSpot
 from pieces import Quoted, often, set_of
+from policy import PROCESS
 from table import BLOCK_ROWS, SET_ASIDE, SIGNS, SPACE_OF_KIND
 
 NAMES = {
@@ -13,7 +14,7 @@ NAMES = {
     b"typeattribute": [b"t", b"k", b"g", b"h", b"z"],
     b"roleattribute": [b"q", b"g", b"a"],
     b"userattribute": [b"v", b"g", b"a"],
-    b"classmap": [b"file", b"dir", b"m", b"map"],
+    b"classmap": [PROCESS, b"file", b"dir", b"m", b"map"],
     b"classpermission": [b"n", b"file", b"s", b"k"],
     b"boolean": [b"p", b"q", b"a", b"f"],
 }
@@ -30,7 +31,7 @@ SETTING = {
     b"userattribute": (b"userattributeset", b"user"),
 }
 
-MAPPED = [b"w0", b"w1", b"w2", b"w3", b"read", b"p0", b"p1"]
+MAPPED = [b"w0", b"w1", b"w2", b"w3", b"read", b"p0", b"p1", b"transition"]
 CONDITIONS = [b"and", b"or", b"xor", b"eq", b"neq"]
 
 # Arguments that are nearly class permissions.
@@ -338,7 +339,7 @@ class StageDraft(OptionalDraft):
         is_branch = isinstance(spot, BranchSpot)
         keywords = [b"allow"] * 6
         if not is_branch:
-            keywords += [b"roletype", b"userrole"]
+            keywords += RULES
         keywords += [each for each in (b"auditallow", b"dontaudit") if self.has(each)] * 2
         keyword = self.rng.choice(keywords)
         if keyword in RULES:
@@ -360,6 +361,38 @@ class StageDraft(OptionalDraft):
     def add_rule_to(self, spot, keyword):
         target = b"self" if often(self.rng, 0.2) else self.word(spot, b"type")
         spot.body.append([keyword, self.word(spot, b"type"), target, self.class_permission(spot)])
+
+    # ---- changes of role
+
+    def add_changes(self):
+        super().add_changes()
+        if self.has(b"roleattribute") and often(self.rng, 0.6):
+            self.add_several(self.add_change_of_many, 2)
+        if self.has(b"classmap") and often(self.rng, 0.4):
+            self.add_mapped_change()
+
+    def add_change_of_many(self):
+        """A roleallow from or to an attribute of some roles, or of all but some."""
+        spot = self.spot(may_be_macro=often(self.rng, 0.2), deepest=2)
+        name = self.rng.choice(NAMES[b"roleattribute"])
+        self.declare(spot, b"roleattribute", name)
+        roles = [self.rng.choice([b".r", OptionalDraft.word(self, spot, b"role")]) for _ in range(self.rng.choice([1, 2, 2]))]
+        made = self.rng.choice([roles, [b"not", roles], b"all", set_of(self.rng, roles, 3)])
+        spot.body.append([b"roleattributeset", name, made])
+        spot.body.append([b"roleallow", *self.rng.sample([name, self.rng.choice([name, self.word(spot, b"role")])], 2)])
+
+    def add_mapped_change(self):
+        """A class map or the name of a class permission that has permissions of a class called process, and a rule of it."""
+        spot = self.spot(deepest=2)
+        class_word = self.rng.choice([PROCESS, b"." + PROCESS])
+        given = [class_word, self.permissions_on(spot, class_word)]
+        if often(self.rng, 0.5):
+            self.declare(spot, b"classpermission", b"s")
+            spot.body += [[b"classpermissionset", b"s", given], [b"allow", b".a", b".b", b"s"]]
+            return
+        self.declare(spot, b"classmap", b"m")
+        permission = self.rng.choice(list(self.maps.get((*spot.space, b"m")) or [b"w0"]))
+        spot.body += [[b"classmapping", b"m", permission, given], [b"allow", b".a", b".b", [b"m", [permission]]]]
 
     def add_forbidden(self):
         """A neverallow that is like an allow rule, or nearly."""
@@ -635,6 +668,8 @@ class StageDraft(OptionalDraft):
                 add()
         for add, most in ((self.add_declaration, 22), (self.add_inherit, 3), (self.add_share, 2)):
             self.add_several(add, int(most * size))
+        if self.has(b"roleallow") and often(rng, 0.6):
+            self.add_process()
         self.learn()
         if self.has(b"booleanif"):
             self.add_several(self.add_booleanif, int(6 * size))
@@ -667,6 +702,8 @@ class StageDraft(OptionalDraft):
         if self.has(b"booleanif"):
             self.add_several(self.add_call_in_branch, int(4 * size))
         self.add_several(self.add_rule, int(18 * size))
+        if self.has(b"roleallow") and often(rng, 0.8):
+            self.add_changes()
         if self.has(b"typetransition"):
             self.add_several(self.add_transition, 3)
         if self.has(b"neverallow") and (often(rng, 0.5) or self.wrong == "neverallows"):

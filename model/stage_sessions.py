@@ -1,11 +1,12 @@
 """Random sessions over policies with what can be accepted beside today's language, as parts that can be left out."""
 import block_sessions
-from block_sessions import any_context
+from block_sessions import any_context, changes, is_process, valid_contexts
 from faults import printed
 from instances import words_in
 from level_policies import LevelDraft
-from optional_sessions import LINES, names_out, pairs_in, pairs_out, rules_out, some
+from optional_sessions import LINES, left_out, names_out, pairs_in, pairs_out, rules_out, some
 from pieces import install, often
+from policy import CHANGES
 from rules import targets_of
 from stage_policies import StageDraft
 
@@ -32,7 +33,7 @@ def stages(rng, language):
 
 
 def levels(rng, language):
-    """The same with levels, constraints and roleallow, whose meaning is still to come: refused, unless --whole."""
+    """The same with levels and constraints, whose meaning is still to come: refused, unless --whole."""
     return block_sessions.loads(rng, LevelDraft(rng, language), asked, 0.35)
 
 
@@ -45,6 +46,8 @@ def asked(rng, policy):
     for made in (pairs_in(rng, policy), rules_out(rng, policy), pairs_out(rng, policy), names_out(policy)):
         queries += [each for each in some(rng, made) if is_near(policy, each)][:4]
     queries += by_aliases(rng, policy)
+    changed = some(rng, changes(rng, policy, changes_out(policy)))
+    queries += changed
     turned = sorted(policy.defaults)
     conditional = of_rules(rng, policy, is_conditional=True)
     for _ in range(rng.choice([1, 2, 3]) if turned or often(rng, 0.1) else 0):
@@ -52,7 +55,7 @@ def asked(rng, policy):
         queries.append(b"SET %s %s\n" % (name, rng.choice([b"true", b"false"])))
         queries += rng.sample(conditional, min(len(conditional), 8))
     queries += by_conditions(rng, policy)
-    for each in rng.sample(queries, min(len(queries), 5)):
+    for each in rng.sample(queries, min(len(queries), 5)) + rng.sample(changed, min(len(changed), 2)):
         if each.startswith(b"AV "):
             queries.append(check_of(rng, policy, each))
     return queries + LINES
@@ -101,7 +104,17 @@ def is_near(policy, query):
 
 
 def av(rng, policy, source, target, class_name):
-    return b"AV %s %s %s\n" % (any_context(rng, policy, source), any_context(rng, policy, target), class_name)
+    """A query of types. Where roles matter they are any that have the types, most of the time."""
+    contexts = [any_context(rng, policy, each) for each in (source, target)]
+    if is_process(class_name) and often(rng, 0.7):
+        held = [valid_contexts(policy, each) for each in (source, target)]
+        contexts = [b":".join(rng.choice(each)) for each in held] if all(held) else contexts
+    return b"AV %s %s %s\n" % (*contexts, class_name)
+
+
+def changes_out(policy):
+    """Roles that a roleallow would have if its optional were in. Attributes are none."""
+    return [tuple(named) for _, named in left_out(policy, [b"roleallow"])]
 
 
 def by_aliases(rng, policy):
@@ -120,7 +133,8 @@ def check_of(rng, policy, query):
     listed = sorted(policy.permissions.get(class_name, [])) or [b"read"]
     reply = policy.query(source, target, class_name, policy.defaults)
     allowed = reply.split(b" ")[1].split(b",") if reply.startswith(b"OK ") and reply[3:4] != b"-" else listed
-    permission = rng.choice(rng.choice([allowed, allowed, listed, [b"nope", b"-"]]))
+    changing = [each for each in CHANGES if each in listed and is_process(class_name)] or allowed
+    permission = rng.choice(rng.choice([allowed, changing, listed, changing, [b"nope", b"-"]]))
     return b"CHECK %s %s %s %s\n" % (source, target, class_name, permission)
 
 

@@ -162,10 +162,11 @@ STAGES = {
     "audit": b"auditallow dontaudit".split(),
     "booleans": b"boolean booleanif neverallow".split(),
     "transitions": b"roletransition typetransition typechange typemember".split(),
+    "roles": b"roleallow".split(),
 }
 
 # The stages that the program accepts today. Whoever brings one there enters it here.
-TODAY = "sets", "transitions", "maps", "audit", "booleans"
+TODAY = "sets", "transitions", "maps", "audit", "booleans", "roles"
 
 
 def accepting(stages):
