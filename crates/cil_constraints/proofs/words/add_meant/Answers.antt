@@ -1,0 +1,8 @@
+use Rattle.std.proofs.Common.{[], refl}
+use Rattle.cil_base.proofs.AtPlace.{at_place}
+use Rattle.cil_base.specs.Places.{get_so}
+use Rattle.cil_constraints.proofs.WordLemmas.{none_meant, one_meant, past_meant}
+use Rattle.cil_constraints.proofs.words.add_meant.Goals as goal
+
+pub returns-in_default : goal.returns-in_default
+returns-in_default c = none_meant _ _ _ c.in_default.is
