@@ -1,9 +1,9 @@
 -- Which permissions are left, by their bits.
-use Rattle.std.specs.Prelude.{◌↔◌, IsBitSet, bit_or, Some, Result, Ok, Err, MatchResult, slice_get}
+use Rattle.std.specs.Prelude.{◌↔◌, IsBitSet, bit_or, Some, slice_get}
 use Rattle.std.specs.Int.{bit_at}
-use Rattle.std.proofs.Common.{◌≡◌, ℕ, ◌*◌, ◌%◌, ◌^◌, ◌<◌, ◌≤◌, ◌⊎◌, List, length, codes, refl, sym, ◌∙◌, ap, subst, inl, inr, arith}
+use Rattle.std.proofs.Common.{◌≡◌, ℕ, ◌*◌, ◌%◌, ◌^◌, ◌<◌, ◌≤◌, List, length, codes, refl, sym, ◌∙◌, ap, subst, inl, inr, arith}
 use Rattle.std.proofs.lemmas.Nat.{pow_below}
-use Rattle.std.proofs.lemmas.Nat.Bits.{bit_at_or, bit_at-lt, bit_at-zero, bit_at-pow_same, bit_at-pow_other}
+use Rattle.std.proofs.lemmas.Nat.Bits.{bit_at-pow_same, bit_at-pow_other}
 use Rattle.std.proofs.lemmas.Option.{slice_get_within}
 use Rattle.cil_base.specs.Decided.{same_number}
 use Rattle.cil_base.specs.NameNumbers.{IsNumberOf}

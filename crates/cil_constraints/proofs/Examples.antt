@@ -1,12 +1,12 @@
 -- Constraints, computed on numbers.
-use Rattle.std.specs.Prelude.{◌≡◌, ℕ, true, false, List, [], ◌∷◌, refl}
+use Rattle.std.specs.Prelude.{◌≡◌, [], ◌∷◌, refl}
 use Rattle.cil_constraints.specs.declared.step.Part.TheVariants as parts
 use Rattle.cil_constraints.specs.declared.step.Side.TheVariants as sides
 use Rattle.cil_constraints.specs.declared.step.Equality.TheVariants as equalities
 use Rattle.cil_constraints.specs.declared.step.LevelPair.TheVariants as pairs
 use Rattle.cil_constraints.specs.declared.step.Relation.TheVariants as relations
 use Rattle.cil_constraints.specs.declared.step.Step.TheVariants as steps
-use Rattle.cil_constraints.specs.Expressions.{Expression, Negated, Both, Either, Compared, Ranked, Inside, steps_of, trees}
+use Rattle.cil_constraints.specs.Expressions.{Negated, Either, Compared, Ranked, Inside, trees}
 use Rattle.cil_constraints.specs.Order.{step_fields}
 
 -- steps that are no expression: an operand too few, and two expressions

@@ -2,7 +2,7 @@
 use Rattle.std.specs.Global.{Vec}
 use Rattle.std.specs.Prelude.{IfOk, MatchOption, None, Ok, OnOk, Option, Result, Some, if◌then◌else◌}
 use Rattle.std.specs.Option.{is_some, option_map}
-use Rattle.std.proofs.Common.{◌≡◌, ℕ, zero, suc, ◌≤◌, max, Bool, true, false, List, [], ◌∷◌, ◌++◌, drop, get_or, length, map, refl, sym, ◌∙◌, ap, subst, arith}
+use Rattle.std.proofs.Common.{◌≡◌, ℕ, zero, suc, ◌≤◌, max, Bool, true, false, List, [], ◌∷◌, ◌++◌, drop, get_or, length, refl, sym, ◌∙◌, ap, subst, arith}
 use Rattle.std.proofs.lemmas.List.{append-nil, append_assoc, drop-drop, length-append}
 use Rattle.std.proofs.lemmas.Option.{none-some}
 use Rattle.cil_syntax.specs.declared.kind.Kind.{Kind}
@@ -36,7 +36,7 @@ use Rattle.cil_constraints.specs.declared.step.Step.{Step}
 use Rattle.cil_constraints.specs.declared.variable.Variable.{Variable}
 use Rattle.cil_constraints.specs.declared.variable.Variable.TheVariants.{PartOf, LowOf, HighOf}
 use Rattle.cil_constraints.specs.Expressions.{Expression, Negated, Both, Either, Compared, Ranked, Inside, levels_of, steps_of}
-use Rattle.cil_constraints.specs.Joins.{both_say, heads, joined_by, joined_or, joins_of, takes_one}
+use Rattle.cil_constraints.specs.Joins.{both_say, heads, joined_or, joins_of, takes_one}
 use Rattle.cil_constraints.specs.Numbered.{IsExpressionOf}
 use Rattle.cil_constraints.specs.Saying.{all_said as all_asked, both_there, compared, equality_of, is_union, leaves, levels_compared, listed, pair_of, relation_of, said, variable_in, variable_of, variables_compared, with_operand, words_compared}
 use Rattle.cil_constraints.specs.Pushed.{AreSets, IsAdded, IsNothing, IsPut, IsUnsaid, sets_in}

@@ -1,15 +1,15 @@
 -- What terms say, computed.
-use Rattle.std.specs.Prelude.{◌≡◌, ℕ, List, [], ◌∷◌, Some, None, refl, codes}
+use Rattle.std.specs.Prelude.{◌≡◌, ℕ, [], ◌∷◌, Some, None, refl}
 use Rattle.cil_syntax.specs.declared.term.Op.{Op}
 use Rattle.cil_syntax.specs.declared.term.Op.TheVariants as ops
 use Rattle.cil_faults.specs.Spots.{spot_at}
-use Rattle.cil_syntax.specs.Terms.{Term, Leaf, Name, Form, Terms, nil, cons}
+use Rattle.cil_syntax.specs.Terms.{Term, Leaf, Form, Terms, nil, cons}
 use Rattle.cil_constraints.specs.declared.step.Part.TheVariants as parts
 use Rattle.cil_constraints.specs.declared.step.Side.TheVariants as sides
 use Rattle.cil_constraints.specs.declared.step.Equality.TheVariants as equalities
 use Rattle.cil_constraints.specs.declared.step.LevelPair.TheVariants as pairs
 use Rattle.cil_constraints.specs.declared.step.Relation.TheVariants as relations
-use Rattle.cil_constraints.specs.Expressions.{Expression, Negated, Both, Either, Compared, Ranked, Inside}
+use Rattle.cil_constraints.specs.Expressions.{Negated, Both, Either, Compared, Ranked, Inside}
 use Rattle.cil_constraints.specs.Saying.{said, all_said}
 
 abbrev form : Op → Terms ℕ → Term ℕ

@@ -1,16 +1,15 @@
 -- What is true of the symbols of two contexts is true of their numbers.
-use Rattle.std.specs.Prelude.{◌↔◌, Contains, Some, slice_get}
+use Rattle.std.specs.Prelude.{◌↔◌, Some, slice_get}
 use Rattle.std.specs.Ordering.{nat_cmp}
 use Rattle.std.proofs.Common.{◌≡◌, ◌⊎◌, ℕ, Bool, true, false, not, ◌&&◌, ◌||◌, ◌==◌, List, get_or, refl, sym, ◌∙◌, ap, subst, inl, inr}
 use Rattle.std.proofs.lemmas.Option.{same_Some}
 use Rattle.cil_base.specs.Among.{among}
 use Rattle.cil_base.specs.Lists.{Lists}
 use Rattle.cil_syntax.specs.declared.kind.Kind.{Kind}
-use Rattle.cil_syntax.specs.declared.kind.Kind.TheVariants as kinds
 use Rattle.cil_syntax.specs.Scopes.{ScopedWord}
 use Rattle.cil_macros.specs.Item.{Item}
 use Rattle.cil_names.specs.declared.entry.Entry.{Entry}
-use Rattle.cil_names.specs.Declarations.{Declared, Symbol, name_of}
+use Rattle.cil_names.specs.Declarations.{Declared, Symbol}
 use Rattle.cil_names.specs.Entries.{is_declared_in}
 use Rattle.cil_names.specs.Symbols.{symbol_of}
 use Rattle.cil_names.proofs.DeclareDecided.{symbol_by}

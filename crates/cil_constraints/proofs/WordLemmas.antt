@@ -3,10 +3,10 @@ use Rattle.std.specs.Global.{Vec}
 use Rattle.std.specs.Prelude.{◌↔◌, Contains, None, Option, Some, if◌then◌else◌}
 use Rattle.std.specs.Ordering.{nat_cmp}
 use Rattle.std.specs.List.Sorted.{IsStrictlySortedBy}
-use Rattle.std.proofs.Common.{◌≡◌, ◌⊎◌, ℕ, ◌+◌, ◌<◌, ◌≤◌, Bool, false, true, List, [], ◌∷◌, ◌++◌, drop, get_or, length, map, take, refl, sym, ◌∙◌, ap, subst, inl, inr, arith}
+use Rattle.std.proofs.Common.{◌≡◌, ◌⊎◌, ℕ, ◌+◌, ◌<◌, ◌≤◌, Bool, false, true, List, [], ◌∷◌, ◌++◌, drop, get_or, length, map, take, refl, sym, ◌∙◌, ap, subst, inl, inr}
 use Rattle.std.proofs.Math.ListN.{get_or-eq_default}
 use Rattle.std.proofs.Math.Seq.{drop-append_seam}
-use Rattle.std.proofs.lemmas.List.{append_assoc, append-nil, drop_all, length-map, map-append, take_all, take_more}
+use Rattle.std.proofs.lemmas.List.{append_assoc, append-nil, length-map, map-append, take_all, take_more}
 use Rattle.std.proofs.lemmas.List.Elements.{Contains-append_left, Contains-append_right, Contains-append_cases}
 use Rattle.std.proofs.lemmas.Option.{none-some, same_Some}
 use Rattle.cil_base.specs.Lists.{Lists, contains_cases, contains_here, contains_none}
@@ -26,11 +26,11 @@ use Rattle.cil_syntax.specs.Scopes.{ScopedWord}
 use Rattle.cil_macros.specs.Item.{Item, OptSet, all_replaced}
 use Rattle.cil_names.specs.Resolves.{Word as AWord}
 use Rattle.cil_names.specs.Unresolved.{term_with, terms_with}
-use Rattle.cil_names.proofs.AskedLemmas.{all_asked_in, asked_in, form_asked, leaf_asked, more_asked, none_asked}
+use Rattle.cil_names.proofs.AskedLemmas.{all_asked_in, asked_in, form_asked, leaf_asked, more_asked}
 use Rattle.cil_names.proofs.UnresolvedLemmas.{scoped_form, scoped_leaf, scoped_name}
 use Rattle.cil_known.specs.declared.known.Known.{Known}
 use Rattle.cil_known.specs.Members.{StandsFor}
-use Rattle.cil_known.specs.Known.{AreStanding, BeginWith, HasNumberFor, IsKnown, enabled_in, meant_in, set_meant, value_in, wanted_with}
+use Rattle.cil_known.specs.Known.{AreStanding, BeginWith, HasNumberFor, enabled_in, meant_in, set_meant, value_in, wanted_with}
 use Rattle.cil_known.proofs.BehindLemmas.{behind_leaf, behind_name}
 use Rattle.cil_constraints.specs.declared.step.Part.{Part}
 use Rattle.cil_constraints.specs.Numbered.{HasNumberAmong}

@@ -1,12 +1,10 @@
 -- How a term says what a constraint asks for. CIL Reference Guide, "Constraint Statements".
-use Rattle.std.specs.Prelude.{ℕ, Bool, true, false, if◌then◌else◌, List, [], ◌∷◌, ◌++◌, Option, Some, None}
+use Rattle.std.specs.Prelude.{Bool, true, false, if◌then◌else◌, List, [], ◌∷◌, ◌++◌, Option, Some, None}
 use Rattle.std.specs.Option.{option_map}
 use Rattle.cil_syntax.specs.declared.term.Op.{Op}
 use Rattle.cil_syntax.specs.declared.term.Op.TheVariants as ops
 use Rattle.cil_syntax.specs.Terms.{Term, Leaf, Name, Form, Terms, nil, cons}
-use Rattle.cil_constraints.specs.declared.step.Part.{Part}
 use Rattle.cil_constraints.specs.declared.step.Part.TheVariants as parts
-use Rattle.cil_constraints.specs.declared.step.Side.{Side}
 use Rattle.cil_constraints.specs.declared.step.Side.TheVariants as sides
 use Rattle.cil_constraints.specs.declared.step.Equality.{Equality}
 use Rattle.cil_constraints.specs.declared.step.Equality.TheVariants as equalities
@@ -17,7 +15,7 @@ use Rattle.cil_constraints.specs.declared.step.Relation.TheVariants as relations
 use Rattle.cil_constraints.specs.declared.variable.Variable.{Variable}
 use Rattle.cil_constraints.specs.declared.variable.Variable.TheVariants.{PartOf, LowOf, HighOf}
 use Rattle.cil_constraints.specs.Joins.{joined_or, joins_of}
-use Rattle.cil_constraints.specs.Expressions.{Expression, Negated, Both, Either, Compared, Ranked, Inside}
+use Rattle.cil_constraints.specs.Expressions.{Expression, Compared, Ranked, Inside}
 
 -- ---- variables and operators
 

@@ -1,5 +1,5 @@
 -- What the walk over the term of a constraint makes. No other crate needs these words.
-use Rattle.std.specs.Prelude.{◌≡◌, ◌⊎◌, ◌↔◌, ◌≤◌, ℕ, suc, false, Bool, true, List, [], ◌∷◌, ◌++◌, drop, length, map, take, Contains, Option, Some, None}
+use Rattle.std.specs.Prelude.{◌≡◌, ◌⊎◌, ◌↔◌, ◌≤◌, ℕ, false, Bool, true, List, [], ◌∷◌, ◌++◌, drop, length, map, take, Contains, Option, Some, None}
 use Rattle.std.specs.Ordering.{nat_cmp}
 use Rattle.std.specs.List.Sorted.{IsStrictlySortedBy}
 use Rattle.cil_base.specs.Lists.{Lists}
@@ -8,7 +8,7 @@ use Rattle.cil_syntax.specs.declared.term.Op.{Op}
 use Rattle.cil_syntax.specs.declared.term.Op.TheVariants as ops
 use Rattle.cil_syntax.specs.declared.term.Term as rust
 use Rattle.cil_syntax.specs.declared.term.Word.{Word}
-use Rattle.cil_syntax.specs.Depths.{AllNest, Nests, below}
+use Rattle.cil_syntax.specs.Depths.{AllNest, below}
 use Rattle.cil_syntax.specs.Forms.{is_class_list}
 use Rattle.cil_syntax.specs.Said.{all_said, said_of}
 use Rattle.cil_syntax.specs.Scopes.{ScopedWord}
@@ -20,7 +20,6 @@ use Rattle.cil_known.specs.Known.{AreStanding, BeginWith, IsKnown, enabled_in, v
 use Rattle.cil_constraints.specs.declared.joins.Joins.{Joins}
 use Rattle.cil_constraints.specs.declared.push.Standing.{Standing}
 use Rattle.cil_constraints.specs.declared.step.Part.{Part}
-use Rattle.cil_constraints.specs.declared.step.Part.TheVariants as parts
 use Rattle.cil_constraints.specs.declared.step.Side.{Side}
 use Rattle.cil_constraints.specs.declared.step.Equality.{Equality}
 use Rattle.cil_constraints.specs.declared.step.Relation.{Relation}
@@ -30,9 +29,9 @@ use Rattle.cil_constraints.specs.declared.variable.Variable.{Variable}
 use Rattle.cil_constraints.specs.Numbered.{HasNumberAmong}
 use Rattle.cil_constraints.specs.Pushed.{IsNothing, IsPut}
 use Rattle.cil_constraints.specs.Contexts.{kind_of}
-use Rattle.cil_constraints.specs.Expressions.{Expression, levels_of, steps_of}
+use Rattle.cil_constraints.specs.Expressions.{Expression}
 use Rattle.cil_constraints.specs.Joins.{joined_by, joined_or, joins_of}
-use Rattle.cil_constraints.specs.Saying.{all_said as all_asked, compared, leaf_of, leaves, listed, said, variable_in, variables_compared, with_operand, words_compared}
+use Rattle.cil_constraints.specs.Saying.{all_said as all_asked, compared, leaf_of, leaves, listed, variable_in, with_operand, words_compared}
 
 -- ---- sets of words
 

@@ -241,7 +241,11 @@ fn left_in(alloc: Global, name: &[u8], from: usize, onto: usize) -> Result<u32, 
 fn roles_change_where_they_may(rt: HostRuntime) -> Result<(), Fail> {
     let alloc = rt.alloc();
     for &(name, from, onto, want) in CHANGES {
-        assert_eq!(rt; left_in(alloc, name, from, onto)?, want, "{name:?} {from} {onto}");
+        assert_eq!(rt;
+            left_in(alloc, name, from, onto)?,
+            want,
+            "{name:?} {from} {onto}"
+        );
     }
     Ok(())
 }

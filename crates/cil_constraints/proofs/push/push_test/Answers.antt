@@ -1,7 +1,7 @@
-use Rattle.std.proofs.Common.{◌≡◌, sym, ◌∙◌}
+use Rattle.std.proofs.Common.{sym, ◌∙◌}
 use Rattle.cil_syntax.specs.declared.term.Word.{Word}
 use Rattle.cil_syntax.specs.Scopes.{ScopedWord}
-use Rattle.cil_constraints.proofs.PushLemmas.{no_relation, no_variable, not_a_pair, pair_added_in, pair_unsaid_in, refused, taken}
+use Rattle.cil_constraints.proofs.PushLemmas.{no_variable, not_a_pair, pair_added_in, pair_unsaid_in, refused, taken}
 use Rattle.cil_constraints.proofs.push.push_test.Goals as goal
 
 pub returns-then-parts-ne2 : goal.returns-then-parts-ne2

@@ -1,5 +1,5 @@
 use Rattle.std.proofs.Common.{sym, ◌∙◌}
-use Rattle.cil_constraints.proofs.PushLemmas.{equality_unsaid, high_unsaid, inside_put, low_unsaid}
+use Rattle.cil_constraints.proofs.PushLemmas.{inside_put}
 use Rattle.cil_constraints.proofs.push.push_words.Goals as goal
 
 pub returns-in_ok-push_part-in-PartOf : goal.returns-in_ok-push_part-in-PartOf

@@ -1,7 +1,4 @@
-use Rattle.std.proofs.Common.{[], refl}
-use Rattle.cil_base.proofs.AtPlace.{at_place}
-use Rattle.cil_base.specs.Places.{get_so}
-use Rattle.cil_constraints.proofs.WordLemmas.{none_meant, one_meant, past_meant}
+use Rattle.cil_constraints.proofs.WordLemmas.{none_meant}
 use Rattle.cil_constraints.proofs.words.add_meant.Goals as goal
 
 pub returns-in_default : goal.returns-in_default
