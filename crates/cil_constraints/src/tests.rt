@@ -5,10 +5,13 @@ ghost use Rattle.std.specs.Prelude.{◌≡◌, ◌≤◌, ◌∷◌, [], IfOk, c
 use crate::change::{Row, left_of};
 use crate::expr::{Context, Expr, truth_at};
 use crate::mask::{Constraint, permitted};
+use crate::push::{Standing, push_said};
 use crate::step::{Equality, LevelPair, Part, Relation, Side, Step};
 use cil_base::Bytes;
 use cil_mls::{Categories, Level};
+use cil_names::Meaning;
 use cil_sets::Numbers;
+use cil_syntax::{Excerpt, LookedUp, Op, Sign, Term};
 use std::alloc::Global;
 use std::test::Fail;
 
@@ -273,6 +276,117 @@ fn a_false_constraint_takes_its_permissions(rt: HostRuntime) -> Result<(), Fail>
     let alloc = rt.alloc();
     for &(covered, want) in &[(0b111, 0b101), (0b010, 0), (0b101, 0b101), (0, 0)] {
         assert_eq!(rt; left_by_one(alloc, covered)?, want, "{covered}");
+    }
+    Ok(())
+}
+
+fn word(bytes: &'static [u8]) -> Term<'static> {
+    Term::Leaf(LookedUp {
+        bytes: Excerpt::of(bytes),
+        at: 0,
+        sign: Sign::Roles,
+    })
+}
+
+fn alone(alloc: Global, op: Op) -> Term<'static> {
+    Term::Form(op, 0, Vec::new(alloc))
+}
+
+fn two(
+    alloc: Global,
+    op: Op,
+    first: Term<'static>,
+    second: Term<'static>,
+) -> Result<Term<'static>, Fail> {
+    let mut parts = Vec::new(alloc);
+    parts.push(first)?;
+    parts.push(second)?;
+    Ok(Term::Form(op, 0, parts))
+}
+
+/// `(eq r2 (a b))`
+fn in_a_or_b(alloc: Global) -> Result<Term<'static>, Fail> {
+    let words = two(alloc, Op::Union, word(b"a"), word(b"b"))?;
+    two(alloc, Op::Equal, alone(alloc, Op::TargetRole), words)
+}
+
+/// `(not (eq r2 (a b)))`
+fn in_neither(alloc: Global) -> Result<Term<'static>, Fail> {
+    let mut parts = Vec::new(alloc);
+    parts.push(in_a_or_b(alloc)?)?;
+    Ok(Term::Form(Op::Not, 0, parts))
+}
+
+/// `(and (neq t1 t2) (not (eq r2 (a b))))`
+fn sample(alloc: Global) -> Result<Term<'static>, Fail> {
+    let types = two(
+        alloc,
+        Op::Unequal,
+        alone(alloc, Op::SourceType),
+        alone(alloc, Op::TargetType),
+    )?;
+    two(alloc, Op::And, types, in_neither(alloc)?)
+}
+
+/// What the two words mean: the first and the second declared name.
+fn meanings(alloc: Global) -> Result<Vec<Meaning>, Fail> {
+    let mut words = Vec::new(alloc);
+    words.push(Meaning::of(Some(0))?)?;
+    words.push(Meaning::of(Some(1))?)?;
+    Ok(words)
+}
+
+/// The roles of the two names.
+fn sets_of(alloc: Global, first: &[usize], second: &[usize]) -> Result<Vec<Numbers>, Fail> {
+    let mut sets = Vec::new(alloc);
+    sets.push(set_of(alloc, first)?)?;
+    sets.push(set_of(alloc, second)?)?;
+    Ok(sets)
+}
+
+/// Adds the steps of the sample, and answers how many meanings are behind those of its words.
+fn push_sample(
+    alloc: Global,
+    steps: &mut Vec<Step>,
+    roles: &[Numbers],
+) -> Result<Option<usize>, Fail> {
+    let words = meanings(alloc)?;
+    let term = sample(alloc)?;
+    let sets = Standing {
+        users: &[],
+        roles,
+        types: &[],
+    };
+    let rest = push_said(alloc, steps, &sets, &term, 0, words.as_slice())?;
+    Ok(rest.map(|rest| rest.len()))
+}
+
+/// The roles of `a` and of `b`, and whether the sample is true: the types are 3 and 5, the role of the target is 4.
+const SAMPLES: &[(&[usize], &[usize], bool)] = &[
+    (&[2], &[7], true),
+    (&[2], &[4], false),
+    (&[4, 9], &[], false),
+    (&[], &[], true),
+];
+
+fn is_sample_true(alloc: Global, first: &[usize], second: &[usize]) -> Result<(bool, bool), Fail> {
+    let roles = sets_of(alloc, first, second)?;
+    let mut steps = Vec::new(alloc);
+    if push_sample(alloc, &mut steps, roles.as_slice())? != Some(0) {
+        return Ok((false, false));
+    }
+    Ok(is_true(steps.as_slice()))
+}
+
+#[test]
+fn steps_are_what_is_said(rt: HostRuntime) -> Result<(), Fail> {
+    let alloc = rt.alloc();
+    for &(first, second, want) in SAMPLES {
+        assert_eq!(rt;
+            is_sample_true(alloc, first, second)?,
+            (want, true),
+            "{first:?} {second:?}"
+        );
     }
     Ok(())
 }
