@@ -50,7 +50,7 @@ pub record AllBeginWith (k : Known) (f : Word → ScopedWord) (m : ℕ) (ts : Li
   pub are : words ≡ all_meant k f m ts ++ more
 
 -- what is told of numbers, where these sets are those of the words of users, of roles or of types
-abbrev pub ForSets : List (List ℕ) → ((Known → (Word → ScopedWord) → Type 0)) → ((Word → ScopedWord) → List ScopedWord) → List ℕ → List ℕ → Type 0
+abbrev pub ForSets : List (List ℕ) → (Known → (Word → ScopedWord) → Type 0) → ((Word → ScopedWord) → List ScopedWord) → List ℕ → List ℕ → Type 0
 ForSets sets Begin listed_by old new =
     (k : Known) (xs : List Item) (names : Kind → List (List ℕ)) (part : Part) (f : Word → ScopedWord) → IsKnown k xs names → AreStanding k xs names (kind_of part) sets → Begin k f
     → IsUnited (HasNumberAmong xs (enabled_in k) names part (listed_by f)) old new
