@@ -1,0 +1,13 @@
+mod ChangeLemmas
+pub mod ClassLemmas
+mod Examples
+pub mod MaskLemmas
+pub mod OneTree
+pub mod OrderLemmas
+mod PushLemmas
+mod Reading
+mod SaidExamples
+pub mod NumberTests
+mod TestLemmas
+mod TruthLemmas
+mod WordLemmas

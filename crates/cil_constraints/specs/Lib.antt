@@ -1,0 +1,14 @@
+pub mod Changes
+pub mod Compiled
+pub mod Constrained
+pub mod Contexts
+pub mod Expressions
+pub mod Joins
+pub mod Laws
+pub mod Numbered
+pub mod Order
+pub mod Permitted
+pub mod Pushed
+pub mod Saying
+pub mod Truth
+pub mod Walk
