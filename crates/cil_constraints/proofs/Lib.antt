@@ -1,4 +1,3 @@
-mod ChangeLemmas
 pub mod ClassLemmas
 mod Examples
 pub mod MaskLemmas

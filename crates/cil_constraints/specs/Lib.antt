@@ -1,4 +1,3 @@
-pub mod Changes
 pub mod Compiled
 pub mod Constrained
 pub mod Contexts

@@ -1,13 +1,11 @@
-//! Rows of expressions, and of changes of role, worked out by hand from the rules.
+//! Rows of expressions and of what constraints leave, worked out by hand from the rules.
 
-ghost use Rattle.std.specs.Prelude.{◌≡◌, ◌≤◌, ◌∷◌, [], IfOk, codes};
+ghost use Rattle.std.specs.Prelude.{◌≤◌};
 
-use crate::change::{Row, left_of};
 use crate::expr::{Context, Expr, truth_at};
 use crate::mask::{Constraint, permitted};
 use crate::push::{Standing, push_said};
 use crate::step::{Equality, LevelPair, Part, Relation, Side, Step};
-use cil_base::Bytes;
 use cil_mls::{Categories, Level};
 use cil_names::Meaning;
 use cil_sets::Numbers;
@@ -180,75 +178,6 @@ fn expressions_are_true(rt: HostRuntime) -> Result<(), Fail> {
     for &(row, want) in ROWS {
         let steps = steps_of(alloc, row)?;
         assert_eq!(rt; is_true(steps.as_slice()), (want, true), "{row:?}");
-    }
-    Ok(())
-}
-
-/// The permissions of a class, in byte order: the first and the last are ways in which a process may begin.
-fn permissions(alloc: Global) -> Result<Vec<Bytes>, Fail>
-    ensures { IfOk result (λ v. v.items ≡ codes "dyntransition" ∷ codes "fork" ∷ codes "transition" ∷ []) }
-{
-    let mut names = Vec::new(alloc);
-    names.push(Bytes::copy_of(alloc, b"dyntransition")?)?;
-    names.push(Bytes::copy_of(alloc, b"fork")?)?;
-    names.push(Bytes::copy_of(alloc, b"transition")?)?;
-    Ok(names)
-}
-
-/// For each role those to which it may change: of three roles, the first to the second, and the second to itself.
-fn role_allows(alloc: Global) -> Result<Vec<Numbers>, Fail> {
-    let mut rows = Vec::new(alloc);
-    rows.push(set_of(alloc, &[1])?)?;
-    rows.push(set_of(alloc, &[1])?)?;
-    Ok(rows)
-}
-
-/// The qualified name of a class, the roles of the source and of the target, and which of its three permissions are left.
-const CHANGES: &[(&[u8], usize, usize, u32)] = &[
-    (b"process", 0, 1, 0b111),
-    (b"process", 1, 0, 0b010),
-    (b"process", 0, 2, 0b010),
-    (b"process", 2, 0, 0b010),
-    // Equal roles change nothing, with a roleallow or without.
-    (b"process", 1, 1, 0b111),
-    (b"process", 0, 0, 0b111),
-    // A class of a block, and another class.
-    (b"b.process", 1, 0, 0b111),
-    (b"file", 1, 0, 0b111),
-];
-
-fn with_role(context: Context, role: usize) -> Context {
-    Context { role, ..context }
-}
-
-/// What is left of all permissions of a class without constraints.
-fn left_in(alloc: Global, name: &[u8], from: usize, onto: usize) -> Result<u32, Fail> {
-    let names = permissions(alloc)?;
-    let rows = role_allows(alloc)?;
-    let row = Row {
-        class: 0,
-        name,
-        permissions: names.as_slice(),
-    };
-    Ok(left_of(
-        &[],
-        rows.as_slice(),
-        row,
-        &with_role(source(), from),
-        &with_role(target(), onto),
-        0b111,
-    ))
-}
-
-#[test]
-fn roles_change_where_they_may(rt: HostRuntime) -> Result<(), Fail> {
-    let alloc = rt.alloc();
-    for &(name, from, onto, want) in CHANGES {
-        assert_eq!(rt;
-            left_in(alloc, name, from, onto)?,
-            want,
-            "{name:?} {from} {onto}"
-        );
     }
     Ok(())
 }
