@@ -1,6 +1,6 @@
 -- What names hold at first, one by one.
-use Rattle.std.proofs.Common.{◌≡◌, ◌⊎◌, ℕ, ◌+◌, ◌<◌, List, [], ◌∷◌, ◌++◌, get_or, length, sym, ◌∙◌, ap, subst, inl, inr, arith}
-use Rattle.std.specs.Prelude.{All, Some, slice_get}
+use Rattle.std.proofs.Common.{◌≡◌, ◌⊎◌, ℕ, ◌+◌, ◌<◌, List, [], ◌∷◌, ◌++◌, get_or, length, sym, ◌∙◌, subst, inl, inr, arith}
+use Rattle.std.specs.Prelude.{All}
 use Rattle.cil_base.specs.Places.{get_in_front, get_last, get_so, is_there, longer}
 use Rattle.cil_names.specs.declared.entry.Entry.{Entry}
 use Rattle.cil_mls.specs.declared.expression.Held.{Held}

@@ -1,12 +1,12 @@
 -- What names hold solves the equations.
-use Rattle.std.proofs.Common.{◌≡◌, ◌↔◌, ◌⊎◌, ℕ, ◌+◌, ◌<◌, ◌≤◌, Bool, true, false, ◌&&◌, ◌||◌, ◌==◌, not, ltb, List, [], ◌∷◌, get_or, length, refl, sym, ◌∙◌, ap, subst, inl, inr, arith}
-use Rattle.std.specs.Prelude.{All, Contains, Option, None, Some, slice_get}
+use Rattle.std.proofs.Common.{◌≡◌, ◌↔◌, ◌⊎◌, ℕ, ◌<◌, ◌≤◌, Bool, true, false, ◌&&◌, ◌||◌, ◌==◌, ltb, List, get_or, length, refl, sym, ◌∙◌, ap, subst, inl, inr, arith}
+use Rattle.std.specs.Prelude.{All, Contains, Option, None, Some}
 use Rattle.std.specs.List.{list_any}
 use Rattle.std.specs.Option.{option_map_or}
 use Rattle.std.proofs.lemmas.Bool.{cases_Bool, true≢false}
 use Rattle.std.proofs.lemmas.Bool.Decides.{nat_tests}
-use Rattle.std.proofs.lemmas.Option.{none-some, same_Some}
-use Rattle.cil_base.specs.Places.{get_at, get_contains, in_range}
+use Rattle.std.proofs.lemmas.Option.{same_Some}
+use Rattle.cil_base.specs.Places.{get_at, in_range}
 use Rattle.cil_base.specs.Searches.{any_from, any_true}
 use Rattle.cil_settle.specs.declared.edge.Edge.{Edge}
 use Rattle.cil_settle.specs.Cycles.{Leads}
@@ -16,8 +16,7 @@ use Rattle.cil_syntax.specs.declared.kind.Kind.TheVariants as kinds
 use Rattle.cil_syntax.specs.Expressions.{Complement, EachOf, Everything, OddOf, RangeOf, SomeOf, Way, by_way, differ, is_in, is_in_each, is_in_odd, is_in_some, way_of}
 use Rattle.cil_syntax.specs.Scopes.{ScopedWord}
 use Rattle.cil_syntax.specs.Terms.{Term, Leaf, Name, Form, Terms, nil, cons}
-use Rattle.cil_syntax.proofs.KindLemmas.{same_kind}
-use Rattle.cil_macros.specs.Item.{Item, all_words_in, words_in}
+use Rattle.cil_macros.specs.Item.{Item}
 use Rattle.cil_macros.specs.Items.{Kept, item_at, items_in}
 use Rattle.cil_macros.proofs.ItemLemmas.{item_there}
 use Rattle.cil_names.specs.Declarations.{Symbol}
@@ -29,8 +28,8 @@ use Rattle.cil_names.proofs.AnswerLemmas.{none_where}
 use Rattle.cil_names.proofs.CandidateLemmas.{place_is}
 use Rattle.cil_known.specs.declared.known.Known.{Known}
 use Rattle.cil_known.specs.Known.{IsKnown, enabled_in, meant_in}
-use Rattle.cil_known.specs.Spaces.{is_same_symbol, names}
-use Rattle.cil_attrs.specs.SetFaults.{DeclaresAt, symbol_under}
+use Rattle.cil_known.specs.Spaces.{is_same_symbol}
+use Rattle.cil_attrs.specs.SetFaults.{symbol_under}
 use Rattle.cil_attrs.specs.Targets.{IsEntryAt}
 use Rattle.cil_attrs.proofs.FaultLemmas.{its_entry}
 use Rattle.cil_attrs.proofs.HoldingLemmas.{both, pair, same_symbol}
@@ -38,7 +37,7 @@ use Rattle.cil_attrs.proofs.MembersLemmas.{same_self}
 use Rattle.cil_mls.specs.declared.categories.Categories.{Categories}
 use Rattle.cil_mls.specs.declared.expression.Held.{Held}
 use Rattle.cil_mls.specs.declared.expression.Held.TheVariants.{Nothing, Category, Set}
-use Rattle.cil_mls.specs.Bits.{in_words, is_between}
+use Rattle.cil_mls.specs.Bits.{is_between}
 use Rattle.cil_mls.specs.SetEdges.{DeclaresSet, IsSetEdgeIn, is_set, is_set_at, is_set_kind}
 use Rattle.cil_mls.specs.Values.{IsFew, held_between, in_span, in_term, is_held, meant_held}
 use Rattle.cil_mls.proofs.SetEdgeLemmas.{is_set_of, means_set, named_set, one_place, one_symbol}
@@ -47,7 +46,7 @@ use Rattle.cil_levels.specs.Begun.{AreBegun, IsBegun}
 use Rattle.cil_levels.specs.Held.{AreHeld, HoldCategories, HoldValues}
 use Rattle.cil_levels.specs.Made.{AreDefined, AreMade, IsKept, held_at, in_second, is_made_by, says_of}
 use Rattle.cil_levels.specs.Places.{IsBetween, IsCategoryAt, IsInSpan}
-use Rattle.cil_levels.specs.Values.{AreValues, IsGiven, NamesSetWith, Values, in_value}
+use Rattle.cil_levels.specs.Values.{IsGiven, NamesSetWith, Values, in_value}
 use Rattle.cil_levels.proofs.MakingLemmas.{set_within as first_within}
 use Rattle.cil_levels.proofs.TermLemmas.{same_in}
 
@@ -290,7 +289,7 @@ module _ (k : Known) (i : Kept) (sections : Kind → List (List ℕ)) (known : I
       let x : Definition = record { set = d; at = at } in
       let is_x : Contains all x = defined.every at d within (subst (λ y. DeclaresSet k xs y d) same (record { at = g.at; name = g.name; declares = g.declares; entry = entry })) in
       let says : says_of k i helds (length row) c x ≡ true =
-          ap (in_second helds (length row) (meant_in k) c) (ap (λ (y : Item). y.args) (sym same) ∙ g.says) ∙ value_as g.expression c l ∙ g.value in (
+      ap (in_second helds (length row) (meant_in k) c) (ap (λ (y : Item). y.args) (sym same) ∙ g.says) ∙ value_as g.expression c l ∙ g.value in (
         d,
         subst (IsSetOf d) g.is_a entry,
         any_from (is_made_by k i helds (length row) d c) all x is_x (pair (d == d) (says_of k i helds (length row) c x) (number_same d d refl) says),
@@ -367,7 +366,7 @@ pub evaluated : (k : Known) (xs : List Item) (row : List Symbol) (helds : List H
 evaluated k xs row helds v held e c l =
     same_in (λ w. Unit {0}) (λ w. is_held c (meant_held helds (meant_in k w))) (λ w. v.has w c) (ltb c (length row)) (in_span helds (meant_in k) c) (λ ts. v.span ts c) (λ w h. held.has w c l)
     (λ ts h.
-        same_bools (in_span helds (meant_in k) c ts) (v.span ts c)
-        (λ t. (held.are.spans ts c).1 ((span_is k xs row helds held.categories ts c).0 t))
-        (λ t. (span_is k xs row helds held.categories ts c).1 ((held.are.spans ts c).0 t)))
+    same_bools (in_span helds (meant_in k) c ts) (v.span ts c)
+    (λ t. (held.are.spans ts c).1 ((span_is k xs row helds held.categories ts c).0 t))
+    (λ t. (span_is k xs row helds held.categories ts c).1 ((held.are.spans ts c).0 t)))
     e (λ w h. tt)

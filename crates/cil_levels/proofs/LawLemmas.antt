@@ -1,16 +1,15 @@
 -- Where ranks fall, the equations of sets of categories have one solution.
-use Rattle.std.proofs.Common.{◌≡◌, ◌⊎◌, ℕ, zero, suc, ◌<◌, Bool, true, false, ltb, List, [], length, refl, sym, ◌∙◌, ap, subst, inl, inr, arith}
+use Rattle.std.proofs.Common.{◌≡◌, ℕ, zero, suc, ◌<◌, Bool, true, false, ltb, List, [], length, refl, sym, ◌∙◌, subst, inl, inr, arith}
 use Rattle.std.specs.Prelude.{Contains}
 use Rattle.std.proofs.lemmas.List.Elements.{Contains-append_left}
 use Rattle.cil_syntax.specs.declared.kind.Kind.TheVariants as kinds
 use Rattle.cil_syntax.specs.Scopes.{ScopedWord}
-use Rattle.cil_syntax.specs.Terms.{Term, Name, Terms, nil, cons}
+use Rattle.cil_syntax.specs.Terms.{Term, Terms}
 use Rattle.cil_macros.specs.Item.{Item, OptSet, all_words_in, words_in}
 use Rattle.cil_names.specs.Declarations.{Symbol}
 use Rattle.cil_known.specs.Spaces.{names}
-use Rattle.cil_mls.specs.CategorySets.{NamesSet}
 use Rattle.cil_levels.specs.Laws.{IsRanked}
-use Rattle.cil_levels.specs.Values.{AreValues, IsGiven, NamesSetWith, Values, in_value}
+use Rattle.cil_levels.specs.Values.{AreValues, IsGiven, Values, in_value}
 use Rattle.cil_levels.proofs.TermLemmas.{same_in}
 
 same_tests : (a b : Bool) → (a ≡ true → b ≡ true) → (b ≡ true → a ≡ true) → a ≡ b
@@ -47,16 +46,16 @@ module _ (xs : List Item) (s : OptSet) (row : List Symbol) where
     unfolding all_words_in
     given_there v u of_v of_u c a below g =
         let same : in_value row v g.expression c ≡ in_value row u g.expression c =
-            same_value v u of_v of_u c g.expression (λ w within b n. below b (ranked a b (record {
-              item = g.item;
-              at = g.at;
-              name = g.name;
-              declares = g.declares;
-              is_a = g.is_a;
-              word = w;
-              within = subst (λ ts. Contains (all_words_in ts) w) (sym g.says) (Contains-append_left (words_in g.expression) [] w within);
-              names_b = n;
-            }))) in
+        same_value v u of_v of_u c g.expression (λ w within b n. below b (ranked a b (record {
+          item = g.item;
+          at = g.at;
+          name = g.name;
+          declares = g.declares;
+          is_a = g.is_a;
+          word = w;
+          within = subst (λ ts. Contains (all_words_in ts) w) (sym g.says) (Contains-append_left (words_in g.expression) [] w within);
+          names_b = n;
+        }))) in
         record { item = g.item; at = g.at; name = g.name; declares = g.declares; is_a = g.is_a; expression = g.expression; says = g.says; value = sym same ∙ g.value }
 
     module _ (v u : Values) (of_v : AreValues xs s row v) (of_u : AreValues xs s row u) (c : ℕ) where

@@ -1,6 +1,6 @@
 -- Sets of categories that get what one declaration after another says.
 use Rattle.std.proofs.Common.{◌≡◌, ℕ, zero, suc, ◌+◌, ◌<◌, ◌≤◌, Bool, true, false, ◌&&◌, ◌||◌, ◌==◌, List, [], ◌∷◌, length, take, get_or, refl, sym, ◌∙◌, ap, subst, inl, inr, arith}
-use Rattle.std.specs.Prelude.{All, Contains, Option, Some, None, slice_get}
+use Rattle.std.specs.Prelude.{Contains, Option, Some, None, slice_get}
 use Rattle.std.specs.Prelude.{set as changed}
 use Rattle.std.specs.List.{list_any}
 use Rattle.std.proofs.lemmas.Bool.{cases_Bool}
@@ -8,13 +8,13 @@ use Rattle.std.proofs.lemmas.Bool.Decides.{nat_tests}
 use Rattle.std.proofs.lemmas.List.{get_or-set_other, get_or-set_same, length-set, take_all}
 use Rattle.std.proofs.lemmas.List.Folds.{list_any_more}
 use Rattle.cil_base.specs.Lists.{contains_here, contains_later, contains_none}
-use Rattle.cil_base.specs.Places.{contains_at, in_range, in_take, is_there, there_as}
+use Rattle.cil_base.specs.Places.{in_take, is_there, there_as}
 use Rattle.cil_syntax.specs.declared.kind.Keyword.{Keyword}
 use Rattle.cil_syntax.specs.declared.kind.Keyword.TheVariants as keywords
 use Rattle.cil_syntax.specs.declared.kind.Kind.TheVariants as kinds
 use Rattle.cil_syntax.specs.Scopes.{ScopedWord}
 use Rattle.cil_syntax.specs.Table.{entry_of}
-use Rattle.cil_macros.specs.Items.{Kept, item_at, items_in}
+use Rattle.cil_macros.specs.Items.{Kept, item_at}
 use Rattle.cil_names.specs.Resolves.{is_mapping}
 use Rattle.cil_known.specs.declared.known.Known.{Known}
 use Rattle.cil_known.specs.Known.{meant_in}
@@ -22,7 +22,7 @@ use Rattle.cil_mls.specs.declared.categories.Categories.{Categories}
 use Rattle.cil_mls.specs.declared.expression.Held.{Held}
 use Rattle.cil_mls.specs.declared.expression.Held.TheVariants.{Nothing, Category, Set}
 use Rattle.cil_mls.specs.Bits.{in_words}
-use Rattle.cil_mls.specs.Values.{IsFew, is_held, meant_held}
+use Rattle.cil_mls.specs.Values.{is_held, meant_held}
 use Rattle.cil_levels.specs.declared.definitions.Definition.{Definition}
 use Rattle.cil_levels.specs.Made.{AreInOrder, AreMade, CanBeMade, IsGained, IsGivenMore, IsKept, IsSetIn, LeavesOut, held_at, is_made_by, says_of}
 use Rattle.cil_levels.proofs.TermLemmas.{same_second}

@@ -1,10 +1,9 @@
 -- What names hold at first is the category for which words stand.
-use Rattle.std.proofs.Common.{◌≡◌, ◌↔◌, ◌==◌, ℕ, ◌<◌, ◌≤◌, true, false, List, [], ◌∷◌, get_or, length, refl, sym, ◌∙◌, ap, subst, inl, inr, arith}
+use Rattle.std.proofs.Common.{◌≡◌, ◌==◌, ℕ, ◌<◌, ◌≤◌, true, List, [], ◌∷◌, get_or, length, refl, sym, ◌∙◌, ap, subst, inl, inr, arith}
 use Rattle.std.specs.Prelude.{Contains, Option, None, Some, slice_get}
 use Rattle.std.proofs.lemmas.Bool.Decides.{Decides-eqb, nat_tests}
 use Rattle.std.proofs.lemmas.Map.Made.{IsDistinct-from_AllPairs}
 use Rattle.std.proofs.lemmas.Map.Steps.{length-le_from_distinct_below}
-use Rattle.std.proofs.lemmas.Option.{none-some, same_Some}
 use Rattle.cil_base.specs.Lists.{contains_cases, contains_here, contains_none}
 use Rattle.cil_base.specs.Places.{get_at, get_contains, in_range, is_there, some_at}
 use Rattle.cil_base.specs.Searches.{any_true}
@@ -15,7 +14,6 @@ use Rattle.cil_macros.specs.Item.{Item}
 use Rattle.cil_names.specs.Declarations.{Declared, Symbol}
 use Rattle.cil_names.specs.Entries.{IsAnswer, IsNamed}
 use Rattle.cil_names.specs.Laws.{MeansWhatItNames}
-use Rattle.cil_names.specs.declared.entry.Entry.{Entry}
 use Rattle.cil_known.specs.declared.known.Known.{Known}
 use Rattle.cil_known.specs.Known.{HasNumberFor, IsKnown, IsNumbered, enabled_in, meant_in, set_meant}
 use Rattle.cil_known.specs.Numbers.{AreApart, has_section}
@@ -37,9 +35,9 @@ no_more_than numbers n once below =
     (IsDistinct-from_AllPairs Decides-eqb numbers
     (λ i j d l m e. let k : i ≡ j = once i j (get_or numbers j d) (is_there numbers i d (omega (arith, l, m)) ∙ ap Some e) (is_there numbers j d m) in omega (arith, l, k)))
     (λ q h.
-        let (x, c, t) = any_true (λ z. q == z) numbers h in
-        let (p, within, at) = get_at numbers x c in
-        subst (λ z. z < n) (sym (same_number q x t)) (below p x at))
+    let (x, c, t) = any_true (λ z. q == z) numbers h in
+    let (p, within, at) = get_at numbers x c in
+    subst (λ z. z < n) (sym (same_number q x t)) (below p x at))
 
 pub same_category : (a b : ℕ) → Category a ≡ Category b → a ≡ b
 same_category a b e = cc
@@ -100,7 +98,7 @@ module _ (k : Known) (xs : List Item) (sections : Kind → List (List ℕ)) (kin
     entry_there : (w : ScopedWord) (d : ℕ) → meant_in k w ≡ Some d → d < length k.lookup.names.now
     entry_there w d means =
         let named : IsNamed k.lookup.namespaces.now xs k.lookup.names.now (enabled_in k) w d =
-            subst (IsAnswer k.lookup.namespaces.now xs k.lookup.names.now (enabled_in k) w) means (law k.lookup.namespaces.now xs k.lookup.names.now (enabled_in k) w known.namespaces known.entries) in
+        subst (IsAnswer k.lookup.namespaces.now xs k.lookup.names.now (enabled_in k) w) means (law k.lookup.namespaces.now xs k.lookup.names.now (enabled_in k) w known.namespaces known.entries) in
         in_range k.lookup.names.now d named.entry named.at
 
     -- the one number of a row of one

@@ -1,6 +1,6 @@
 -- Where no set depends on itself, declarations sorted by ranks name only what is made before.
-use Rattle.std.proofs.Common.{◌≡◌, ◌↔◌, ℕ, ◌<◌, ◌≤◌, true, false, List, get_or, length, refl, sym, ◌∙◌, ap, subst, arith}
-use Rattle.std.specs.Prelude.{Contains, IsPermutation, Some, slice_get}
+use Rattle.std.proofs.Common.{◌≡◌, ◌↔◌, ℕ, ◌<◌, true, false, List, get_or, length, refl, sym, ◌∙◌, ap, arith}
+use Rattle.std.specs.Prelude.{Contains, IsPermutation}
 use Rattle.std.specs.List.Sorted.{IsNonDecreasingBy}
 use Rattle.std.specs.Option.{option_map_or}
 use Rattle.std.proofs.lemmas.List.Sorted.{Contains-permutation, IsPermutation-sym}
@@ -16,10 +16,10 @@ use Rattle.cil_macros.specs.Item.{Item}
 use Rattle.cil_macros.specs.Items.{Kept, item_at, items_in}
 use Rattle.cil_names.specs.Laws.{MeansWhatItNames}
 use Rattle.cil_known.specs.declared.known.Known.{Known}
-use Rattle.cil_known.specs.Known.{IsKnown, enabled_in, meant_in}
+use Rattle.cil_known.specs.Known.{IsKnown, enabled_in}
 use Rattle.cil_attrs.specs.SetFaults.{symbol_under}
 use Rattle.cil_mls.specs.CategorySets.{CircularSet}
-use Rattle.cil_mls.specs.SetEdges.{DeclaresJust, DeclaresSet, IsSetEdge, IsSetEdgeIn, is_set, is_set_at, is_set_kind}
+use Rattle.cil_mls.specs.SetEdges.{DeclaresSet, IsSetEdgeIn, is_set, is_set_at, is_set_kind}
 use Rattle.cil_mls.proofs.SetEdgeLemmas.{depends}
 use Rattle.cil_levels.specs.declared.definitions.Definition.{Definition}
 use Rattle.std.proofs.lemmas.Bool.{true≢false}
@@ -56,7 +56,7 @@ module _ (k : Known) (i : Kept) (n : ℕ) (all : List Definition) (are : AreDefi
       let of_x = (are.each x is_x).1.declares in
       let of_y = (are.each y is_y).1.declares in
       let edge : Leads edges x.set y.set =
-          (lead x.set y.set).1 (item_at i x.at, of_x.declares.is_item, record { declares = of_x; word = w; within = within; means = means; of_sets = of_set (item_at i y.at) y.set of_y }) in
+      (lead x.set y.set).1 (item_at i x.at, of_x.declares.is_item, record { declares = of_x; word = w; within = within; means = means; of_sets = of_set (item_at i y.at) y.set of_y }) in
       let lower : get_or ranks y.set 0 < get_or ranks x.set 0 = fall x.set y.set edge in
       let rises = rising p q x le (in_range ordered q y at_q) in
       let here = ap (λ (z : Definition). get_or ranks z.set 0) (get_so ordered p x x at_p) in

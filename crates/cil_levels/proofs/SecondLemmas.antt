@@ -1,7 +1,7 @@
 -- The value of the second of two terms, over a row of what words mean.
 use Rattle.std.proofs.Common.{◌≡◌, ℕ, ◌<◌, ◌≤◌, List, [], ◌∷◌, ◌++◌, length, map, false, refl, sym, ◌∙◌, ap, subst, arith}
 use Rattle.std.specs.Prelude.{Option}
-use Rattle.std.proofs.lemmas.List.{append_assoc, append-nil, map-append}
+use Rattle.std.proofs.lemmas.List.{map-append}
 use Rattle.cil_syntax.specs.declared.term.Term as rust
 use Rattle.cil_syntax.specs.declared.term.Word.{Word}
 use Rattle.cil_syntax.specs.Said.{all_said, said_of}
@@ -63,7 +63,7 @@ module _ (helds : List Held) (count : ℕ) (words : List (Option ℕ)) where
   two_second terms a b e one two first second m g row c l =
       let behind : List (Option ℕ) = map g (words_in (said_of m b) ++ []) in
       let whole : words ≡ map g (words_in (said_of m a)) ++ behind =
-          row ∙ ap (λ ts. map g (all_words_in (all_said m ts))) e ∙ map-append g (words_in (said_of m a)) (words_in (said_of m b) ++ []) in
+      row ∙ ap (λ ts. map g (all_words_in (all_said m ts))) e ∙ map-append g (words_in (said_of m a)) (words_in (said_of m b) ++ []) in
       let rest : one.rest.now ≡ behind = (first m g behind whole).rest in
       let there : one.rest.now ≡ map g (words_in (said_of m b)) ++ [] = rest ∙ map-append g (words_in (said_of m b)) [] in
       (second m g [] there).value c l ∙ ap (λ ts. in_second helds count g c (all_said m ts)) (sym e)
@@ -78,7 +78,7 @@ module _ (k : Known) (i : Kept) (at : ℕ) (s : Statement) (is : statement_of s 
   pub row_there : row_in k (item_at i at) ≡ map (meant_in k) (all_words_in (item_at i at).args)
   row_there =
       let asks : all_wanted_in (item_at i at).args ≡ map AWord (all_words_in (item_at i at).args) =
-          subst (λ (ts : Terms ScopedWord). all_wanted_in ts ≡ map AWord (all_words_in ts)) (sym says_there) (all_plain_wanted (word_at i at) (args_of s) plain) in
+      subst (λ (ts : Terms ScopedWord). all_wanted_in ts ≡ map AWord (all_words_in ts)) (sym says_there) (all_plain_wanted (word_at i at) (args_of s) plain) in
       ap (map (value_in k)) (plain_said (item_at i at).keyword (item_at i at).args mapping ∙ asks) ∙ map-map (value_in k) AWord (all_words_in (item_at i at).args)
 
   row_as : row_in k (item_at i at) ≡ map (λ w. meant_in k (word_at i at w)) (all_words_in (args_of s))

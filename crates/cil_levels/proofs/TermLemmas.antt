@@ -1,5 +1,5 @@
 -- Expressions whose words hold the same have the same values; and expressions whose words are replaced.
-use Rattle.std.proofs.Common.{◌≡◌, ℕ, Bool, true, false, ◌&&◌, ◌||◌, ltb, List, [], refl, sym, ◌∙◌, ap}
+use Rattle.std.proofs.Common.{◌≡◌, ℕ, Bool, ◌&&◌, ◌||◌, ltb, List, [], refl, ◌∙◌, ap}
 use Rattle.std.specs.Prelude.{Contains, Option}
 use Rattle.std.proofs.lemmas.List.Elements.{Contains-append_left, Contains-append_right}
 use Rattle.cil_base.specs.Lists.{contains_here}

@@ -1,5 +1,5 @@
 -- Sets of categories that get what one declaration after another says. No other crate needs these words.
-use Rattle.std.specs.Prelude.{◌≡◌, ◌↔◌, ℕ, ◌<◌, ◌≤◌, Bool, false, ◌&&◌, ◌||◌, ◌==◌, All, List, Contains, Option, Some, get_or, length, slice_get}
+use Rattle.std.specs.Prelude.{◌≡◌, ◌↔◌, ℕ, ◌<◌, ◌≤◌, Bool, false, ◌&&◌, ◌||◌, ◌==◌, List, Contains, Option, Some, get_or, length, slice_get}
 use Rattle.std.specs.List.{list_any}
 use Rattle.cil_settle.specs.declared.edge.Edge.{Edge}
 use Rattle.cil_settle.specs.Cycles.{Leads}
@@ -13,7 +13,7 @@ use Rattle.cil_known.specs.declared.known.Known.{Known}
 use Rattle.cil_known.specs.Known.{meant_in}
 use Rattle.cil_mls.specs.declared.categories.Categories.{Categories}
 use Rattle.cil_mls.specs.declared.expression.Held.{Held}
-use Rattle.cil_mls.specs.declared.expression.Held.TheVariants.{Nothing, Category, Set}
+use Rattle.cil_mls.specs.declared.expression.Held.TheVariants.{Nothing, Set}
 use Rattle.cil_mls.specs.Bits.{in_words}
 use Rattle.cil_mls.specs.SetEdges.{DeclaresJust, DeclaresSet, IsSetEdgeIn}
 use Rattle.cil_mls.specs.Values.{in_term, is_held}

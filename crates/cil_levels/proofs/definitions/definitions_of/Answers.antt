@@ -1,4 +1,4 @@
-use Rattle.std.proofs.Common.{arith, ◌≡◌, length, subst, sym}
+use Rattle.std.proofs.Common.{arith, ◌≡◌, length, subst}
 use Rattle.cil_macros.specs.Items.{items_in}
 use Rattle.cil_levels.specs.Made.{AreDefined}
 use Rattle.cil_levels.proofs.DefinedLemmas.{none_defined}

@@ -23,10 +23,10 @@ loop-definition-preserved c =
     let all = c.args.definitions.now in
     let n = c.loop-definition.definition-index in
     let can =
-        can_still c.args.known.now c.args.instances.now c.args.count (take n all) c.args.begun.items c.loop-definition.helds.items c.loop-definition.invariant.0 (get_or all n none)
-        (c.requires.can (get_or all n none) (Contains-get_or all n none c.loop-definition-test.true)) in (
+    can_still c.args.known.now c.args.instances.now c.args.count (take n all) c.args.begun.items c.loop-definition.helds.items c.loop-definition.invariant.0 (get_or all n none)
+    (c.requires.can (get_or all n none) (Contains-get_or all n none c.loop-definition-test.true)) in (
       made_step c.args.known.now c.args.instances.now c.args.count all c.requires.order n (get_or all n none) c.loop-definition-test.true (get_or_default all n none (get_or all n none) c.loop-definition-test.true) c.args.begun.items c.loop-definition.helds.items c.give.new.helds.items
-      c.in_ok-give.ensures.given can.is_set c.loop-definition.invariant.0,
+          c.in_ok-give.ensures.given can.is_set c.loop-definition.invariant.0,
       c.in_ok-give.ensures.few,
     )
 

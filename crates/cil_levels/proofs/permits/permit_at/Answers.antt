@@ -1,15 +1,14 @@
-use Rattle.std.specs.Prelude.{Contains, option_map}
-use Rattle.std.proofs.Common.{◌≡◌, List, ℕ, true, false, map, refl, sym, ◌∙◌, ap, subst}
+use Rattle.std.specs.Prelude.{option_map}
+use Rattle.std.proofs.Common.{◌≡◌, true, map, sym, ◌∙◌, ap}
 use Rattle.std.proofs.lemmas.Bool.{true≢false}
 use Rattle.std.proofs.lemmas.Option.{slice_get-map}
-use Rattle.cil_syntax.specs.declared.kind.Keyword.TheVariants as keywords
 use Rattle.cil_syntax.specs.Said.{all_said, args_of}
 use Rattle.cil_macros.specs.Items.{item_at, items_in, says_as_written, word_at}
 use Rattle.cil_macros.proofs.ItemLemmas.{item_there}
 use Rattle.cil_macros.proofs.ItemsThere.{keyword_there, said_there}
 use Rattle.cil_names.specs.Resolves.{is_mapping}
 use Rattle.cil_known.specs.Known.{row_in, set_meant}
-use Rattle.cil_levels.specs.Permits.{HaveMore, PermitsBy, begins_with_word}
+use Rattle.cil_levels.specs.Permits.{PermitsBy, begins_with_word}
 use Rattle.cil_levels.proofs.PermitLemmas.{AtSome, begins_replaced, more_as, none_more, permits_as, permits_none}
 use Rattle.cil_levels.proofs.permits.permit_at.Goals as goal
 

@@ -1,5 +1,4 @@
-use Rattle.std.specs.Prelude.{Some, slice_get}
-use Rattle.std.proofs.Common.{◌≡◌, ◌<◌, ◌≤◌, List, ℕ, ap, arith, get_or, length, refl, subst, sym}
+use Rattle.std.proofs.Common.{List, ℕ, ap, arith, get_or, length, refl, subst, sym}
 use Rattle.cil_base.specs.Places.{is_there}
 use Rattle.cil_syntax.specs.declared.kind.Keyword.TheVariants as keywords
 use Rattle.cil_syntax.specs.declared.kind.Kind.TheVariants as kinds
@@ -32,7 +31,7 @@ inverse_of-requires-clause-within c = λ i d below.
     let order = c.args.order.now in
     let names = c.args.sections.now.categories.items in
     let low =
-        number_within k (items_in c.args.instances.now) (names_of c.args.sections.now) kinds.Category names c.in_ok-standing.standing.items (numbered c) refl c.requires.apart keywords.CategoryOrder order c.requires.order i (get_or order i d) (is_there order i d below) in
+    number_within k (items_in c.args.instances.now) (names_of c.args.sections.now) kinds.Category names c.in_ok-standing.standing.items (numbered c) refl c.requires.apart keywords.CategoryOrder order c.requires.order i (get_or order i d) (is_there order i d below) in
     let len = ap length c.as_slice-names.ensures.value in
     omega (arith, low, len)
 
@@ -44,8 +43,8 @@ inverse_of-requires-clause-once c =
 pub inverse_of-requires-clause-few : goal.inverse_of-requires-clause-few
 inverse_of-requires-clause-few c =
     let few =
-        are_few c.args.known.now (items_in c.args.instances.now) (names_of c.args.sections.now) kinds.Category c.args.sections.now.categories.items c.in_ok-standing.standing.items (numbered c) refl c.requires.apart keywords.CategoryOrder c.args.order.now
-        c.requires.order in
+    are_few c.args.known.now (items_in c.args.instances.now) (names_of c.args.sections.now) kinds.Category c.args.sections.now.categories.items c.in_ok-standing.standing.items (numbered c) refl c.requires.apart keywords.CategoryOrder c.args.order.now
+    c.requires.order in
     let most = c.requires.few in
     omega (arith, few, most)
 

@@ -33,7 +33,7 @@ made-requires-clause-order c =
     let i = c.args.instances.now in
     let none = no_cycle k (items_in i) sections known c.means_what_it_names.ensures c.in_ok-edges.edges.items c.in_ok-edges.ensures.edges c.requires.none in
     let fall : Fall c.in_ok-edges.edges.items c.in_ok-cycles.cycles.ranks.items =
-        subst (λ (l : List Edge). HasNoCycle l → Fall l c.in_ok-cycles.cycles.ranks.items) c.as_slice.ensures.value c.in_ok-cycles.ensures.ranks none in
+    subst (λ (l : List Edge). HasNoCycle l → Fall l c.in_ok-cycles.cycles.ranks.items) c.as_slice.ensures.value c.in_ok-cycles.ensures.ranks none in
     subst (AreInOrder k i) (sym c.as_slice-3.ensures.value)
     (in_order k i (length (items_in i)) c.in_ok-definitions.definitions.items c.in_ok-definitions.ensures c.in_ok-edges.edges.items c.in_ok-edges.ensures.edges c.in_ok-cycles.cycles.ranks.items fall c.ranked-ordered.result.items
     (subst (λ (l : List ℕ). IsNonDecreasingBy (λ (x : Definition). get_or l x.set 0) c.ranked-ordered.result.items) c.as_slice-2.ensures.value c.ranked-ordered.ensures.sorted) c.ranked-ordered.ensures.same)
