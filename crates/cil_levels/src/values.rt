@@ -34,7 +34,7 @@ use std::alloc::Global;
 /// that category, a set of categories what its declarations say, and any other name nothing. `value` evaluates expressions by this.
 ///
 /// Each expression is evaluated once, in an order in which each set is made before it is named. It costs n log n steps for n names,
-/// statements and words, and 130 bytes or so for each name. Errors: out of memory, which is also the answer where an alias stands for
+/// statements and words, and 136 bytes for each name. Errors: out of memory, which is also the answer where an alias stands for
 /// several categories, or where the declaration of a set says a list or names permissions: there are none of these.
 pub fn category_values(
     alloc: Global,
