@@ -48,7 +48,7 @@ module _ (k : Known) (xs : List Item) (sections : Kind → List (List ℕ)) (kin
   numbered_out t n e = subst (λ l. IsNumbered l t n) (sym are.named) e
 
   -- a declared symbol has a number
-  its_number : (t : Symbol) → Declared xs s kind t → (n : ℕ) × (n < length names) × IsNumbered names t n
+  pub its_number : (t : Symbol) → Declared xs s kind t → (n : ℕ) × (n < length names) × IsNumbered names t n
   its_number t d =
       let (n, at) = standings.its_number k xs sections are.known kind section t d in
       let here = numbered_in t n at in (n, within names n (name_of t) here, here)
@@ -58,7 +58,7 @@ module _ (k : Known) (xs : List Item) (sections : Kind → List (List ℕ)) (kin
   its_symbol n l =
       let (t, d, at) = standings.its_symbol k xs sections are.known kind section n (let e = ap length are.named in omega (arith, l, e)) in (t, d, numbered_in t n at)
 
-  one_number : (t : Symbol) (n m : ℕ) → IsNumbered names t n → IsNumbered names t m → n ≡ m
+  pub one_number : (t : Symbol) (n m : ℕ) → IsNumbered names t n → IsNumbered names t m → n ≡ m
   one_number t n m a b = standings.one_number k xs sections are.known kind section t n m (numbered_out t n a) (numbered_out t m b)
 
   -- the entry of a declared symbol
@@ -83,7 +83,7 @@ module _ (k : Known) (xs : List Item) (sections : Kind → List (List ℕ)) (kin
       numbered_in c (get_or k.numbers.now i 0) (subst (λ j. slice_get (sections j) (get_or k.numbers.now i 0) ≡ Some (spelled_of k.lookup.namespaces.now f.entry)) f.of_kind at ∙ ap Some spelled)
 
   -- declared symbols of one number are one
-  one_symbol : (c d : Symbol) (n : ℕ) → Declared xs s kind c → Declared xs s kind d → IsNumbered names c n → IsNumbered names d n → c ≡ d
+  pub one_symbol : (c d : Symbol) (n : ℕ) → Declared xs s kind c → Declared xs s kind d → IsNumbered names c n → IsNumbered names d n → c ≡ d
   one_symbol c d n first second at_c at_d =
       let (i, f) = its_entry c first in
       let (j, g) = its_entry d second in
@@ -95,7 +95,7 @@ module _ (k : Known) (xs : List Item) (sections : Kind → List (List ℕ)) (kin
 
   -- ---- pairs
 
-  has : (w : ScopedWord) (n : ℕ) → Contains (set_meant sets (meant_in k w)) n ↔ HasNumberFor xs s kind (sections kind) w n
+  pub has : (w : ScopedWord) (n : ℕ) → Contains (set_meant sets (meant_in k w)) n ↔ HasNumberFor xs s kind (sections kind) w n
   has w n = (are.standing w).members n
 
   pair_below : (a b : ℕ) (t u : Symbol) → Declared xs s kind t → Declared xs s kind u → IsNumbered names t a → IsNumbered names u b → IsPairIn k sets order xs a b ↔ IsBelow xs s kind order t u

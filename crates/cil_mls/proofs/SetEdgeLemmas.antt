@@ -141,7 +141,7 @@ module _ (k : Known) (xs : List Item) (x : Item) where
   no_edges none a b e = none e.declares.at e.declares.name e.declares.declares
 
   -- the meanings of its words, where it asks for these alone
-  words_mean : Contains (entry_of x.keyword).declares kinds.CategorySet → all_wanted_in x.args ≡ map AWord (all_words_in x.args) → row_in k x ≡ map (meant_in k) (all_words_in x.args)
+  pub words_mean : Contains (entry_of x.keyword).declares kinds.CategorySet → all_wanted_in x.args ≡ map AWord (all_words_in x.args) → row_in k x ≡ map (meant_in k) (all_words_in x.args)
   words_mean declares asks =
       ap (map (value_in k)) (plain_said x.keyword x.args (not_mapping x.keyword declares) ∙ asks) ∙ map-map (value_in k) AWord (all_words_in x.args)
 
@@ -187,13 +187,13 @@ module _ (k : Known) (xs : List Item) where
 
 -- ---- by symbols
 
-is_set_of : (kind : Kind) → is_set_kind kind ≡ true → kind ≡ kinds.CategorySet
+pub is_set_of : (kind : Kind) → is_set_kind kind ≡ true → kind ≡ kinds.CategorySet
 is_set_of kinds.CategorySet e = refl
 is_set_of kind e = absurd (true≢false (sym e))
 
 module _ (k : Known) (xs : List Item) (sections : Kind → List (List ℕ)) (known : IsKnown k xs sections) (law : MeansWhatItNames) (edges : List Edge)
     (are : (a b : ℕ) → Leads edges a b ↔ IsSetEdgeIn k xs a b) where
-  abbrev IsSetOf : ℕ → Symbol → Type 0
+  abbrev pub IsSetOf : ℕ → Symbol → Type 0
   IsSetOf d a = IsEntryAt k.lookup.namespaces.now k.lookup.names.now kinds.CategorySet d a
 
   answers : (w : ScopedWord) → IsAnswer k.lookup.namespaces.now xs k.lookup.names.now (enabled_in k) w (meant_in k w)
@@ -204,15 +204,15 @@ module _ (k : Known) (xs : List Item) (sections : Kind → List (List ℕ)) (kno
   fits_as d a s =
       they_are k.lookup.namespaces.now a.name signs.CategorySets a.space s.entry (ap (λ (z : Symbol). z.space) s.symbol) (ap (λ (z : Symbol). z.name) s.symbol) (ap (is_wanted signs.CategorySets) s.of_kind)
 
-  one_place : (c d : ℕ) (a : Symbol) → IsSetOf c a → IsSetOf d a → c ≡ d
+  pub one_place : (c d : ℕ) (a : Symbol) → IsSetOf c a → IsSetOf d a → c ≡ d
   one_place c d a s t =
       one_entry k.lookup.namespaces.now known.namespaces k.lookup.names.now known.entries.ordered a.name signs.CategorySets a.space c d s.entry t.entry s.at t.at (fits_as c a s) (fits_as d a t)
 
-  one_symbol : (d : ℕ) (a b : Symbol) → IsSetOf d a → IsSetOf d b → a ≡ b
+  pub one_symbol : (d : ℕ) (a b : Symbol) → IsSetOf d a → IsSetOf d b → a ≡ b
   one_symbol d a b s t = sym s.symbol ∙ ap (symbol_of k.lookup.namespaces.now) (same_Some s.entry t.entry (sym s.at ∙ t.at)) ∙ t.symbol
 
   -- the set that a word means, by its symbol
-  means_set : (w : ScopedWord) (b : ℕ) → meant_in k w ≡ Some b → is_set_at k.lookup.names.now b ≡ true → (t : Symbol) × IsSetOf b t × (names xs (enabled_in k) kinds.CategorySet w t ≡ true)
+  pub means_set : (w : ScopedWord) (b : ℕ) → meant_in k w ≡ Some b → is_set_at k.lookup.names.now b ≡ true → (t : Symbol) × IsSetOf b t × (names xs (enabled_in k) kinds.CategorySet w t ≡ true)
   means_set w b means of_sets =
       let named : IsNamed k.lookup.namespaces.now xs k.lookup.names.now (enabled_in k) w b = subst (IsAnswer k.lookup.namespaces.now xs k.lookup.names.now (enabled_in k) w) means (answers w) in
       let kind : named.entry.kind ≡ kinds.CategorySet = is_set_of named.entry.kind (sym (ap (λ o. option_map_or is_set o false) named.at) ∙ of_sets) in
@@ -223,7 +223,7 @@ module _ (k : Known) (xs : List Item) (sections : Kind → List (List ℕ)) (kno
       )
 
   -- and back
-  named_set : (w : ScopedWord) (t : Symbol) → names xs (enabled_in k) kinds.CategorySet w t ≡ true → (c : ℕ) × (meant_in k w ≡ Some c) × IsSetOf c t × (is_set_at k.lookup.names.now c ≡ true)
+  pub named_set : (w : ScopedWord) (t : Symbol) → names xs (enabled_in k) kinds.CategorySet w t ≡ true → (c : ℕ) × (meant_in k w ≡ Some c) × IsSetOf c t × (is_set_at k.lookup.names.now c ≡ true)
   named_set w t e = by (meant_in k w) refl (answers w)
     where
       by : (o : Option ℕ) → meant_in k w ≡ o → IsAnswer k.lookup.namespaces.now xs k.lookup.names.now (enabled_in k) w (meant_in k w)
@@ -278,7 +278,7 @@ module _ (k : Known) (xs : List Item) (sections : Kind → List (List ℕ)) (kno
 
   -- ---- in steps
 
-  depends : (a b : ℕ) (t u : Symbol) → IsSetOf a t → IsSetOf b u → Reaches edges a b → DependsOn xs (enabled_in k) t u
+  pub depends : (a b : ℕ) (t u : Symbol) → IsSetOf a t → IsSetOf b u → Reaches edges a b → DependsOn xs (enabled_in k) t u
   depends a b t u s v (paths.at_once c d l) = at_once t u (names_by a b t u s v l)
   depends a b t u s v (paths.further c d e l rest) =
       let (q, at_d) = to_set c d l in

@@ -42,7 +42,7 @@ held_between low high c = false
 -- ---- expressions
 
 -- two words are from the one category to the other
-abbrev pub in_span : List Held → (Word → Option ℕ) → ℕ → Terms Word → Bool
+abbrev pub in_span : {L : Type 0} → List Held → (L → Option ℕ) → ℕ → Terms L → Bool
 in_span helds meaning c nil = false
 in_span helds meaning c (cons a nil) = false
 in_span helds meaning c (cons (Name at x) (cons b rest)) = false
@@ -52,16 +52,16 @@ in_span helds meaning c (cons (Leaf v) (cons (Form at op ts) rest)) = false
 in_span helds meaning c (cons (Leaf v) (cons (Leaf w) nil)) = held_between (meant_held helds (meaning v)) (meant_held helds (meaning w)) c
 in_span helds meaning c (cons (Leaf v) (cons (Leaf w) (cons d rest))) = false
 
-module _ (helds : List Held) (count : ℕ) (meaning : Word → Option ℕ) (c : ℕ) where
-  abbrev pub has_word : Word → Bool
+module _ {L : Type 0} (helds : List Held) (count : ℕ) (meaning : L → Option ℕ) (c : ℕ) where
+  abbrev pub has_word : L → Bool
   has_word w = is_held c (meant_held helds (meaning w))
 
   -- the category is in an expression
-  abbrev pub in_term : Term Word → Bool
+  abbrev pub in_term : Term L → Bool
   in_term t = is_in has_word (ltb c count) (in_span helds meaning c) t
 
   -- in what some expressions are joined to
-  abbrev pub in_parts : Join → Terms Word → Bool
+  abbrev pub in_parts : Join → Terms L → Bool
   in_parts joins.Union ts = is_in_some has_word (ltb c count) (in_span helds meaning c) ts
   in_parts joins.Common ts = is_in_each has_word (ltb c count) (in_span helds meaning c) ts
   in_parts joins.Apart ts = is_in_odd has_word (ltb c count) (in_span helds meaning c) ts

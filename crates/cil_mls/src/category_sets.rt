@@ -75,7 +75,7 @@ fn circular_sets(alloc: Global, instances: &Instances, known: &Known) -> Result<
 }
 
 /// An edge from each set of categories to each that its declarations name, sorted by the sets that they leave. Error: out of memory.
-fn set_edges(alloc: Global, instances: &Instances, known: &Known) -> Result<Vec<Edge>, NoMemory>
+pub fn set_edges(alloc: Global, instances: &Instances, known: &Known) -> Result<Vec<Edge>, NoMemory>
     requires namespaces { known.now.lookup.namespaces.now ≡ namespaces_in instances.now }
     requires table { IsTableOf (map (row_in known.now) (items_in instances.now)) known.now.words.now }
     requires known { (sections : kinds.Kind → List (List ℕ)) × IsKnown known.now (items_in instances.now) sections }
@@ -137,7 +137,7 @@ fn push_set(
 }
 
 /// The entry of the set of categories that the statement at a place declares, if it is an enabled one.
-fn set_declared(instances: &Instances, known: &Known, at: usize) -> Option<usize>
+pub fn set_declared(instances: &Instances, known: &Known, at: usize) -> Option<usize>
     requires namespaces { known.now.lookup.namespaces.now ≡ namespaces_in instances.now }
     requires known { (sections : kinds.Kind → List (List ℕ)) × IsKnown known.now (items_in instances.now) sections }
     requires within { at < length (items_in instances.now) }

@@ -11,7 +11,7 @@
 //! A `Level` (`level.rt`) is a sensitivity and a set of categories (`categories.rt`), all by their places in the two orders, and
 //! `specs/Dominance.antt` says which level dominates which. `LevelNames`, in `level_names.rt`, reads the text of a level or a range
 //! (`specs/LevelTexts.antt`). `laws.rt` says that an order and the level of a text are one. Not done here: the members of sets of
-//! categories, for whose expressions `value` is there (`expression.rt`), and terms of levels. No crate calls this one yet.
+//! categories, for whose expressions `value` is there (`expression.rt`), and terms of levels.
 #![tactic(auto)]
 
 mod categories;
@@ -37,6 +37,7 @@ mod texts;
 mod words;
 
 pub use categories::{Categories, MOST_CATEGORIES};
+pub use category_sets::{set_declared, set_edges};
 pub use expression::{Evaluator, Held, Valued, value};
 pub use in_order::Orders;
 pub use level::{Level, Range};

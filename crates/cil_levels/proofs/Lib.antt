@@ -1,0 +1,11 @@
+pub mod BegunLemmas
+pub mod DefinedLemmas
+pub mod HoldingLemmas
+pub mod InverseLemmas
+pub mod LawLemmas
+pub mod MakingLemmas
+pub mod PermitLemmas
+pub mod PlaceLemmas
+pub mod RankLemmas
+pub mod SecondLemmas
+pub mod TermLemmas

@@ -1,0 +1,22 @@
+//! What sets of categories have, and which categories sensitivities permit. The CIL Reference Guide has both in "Multi-Level Security
+//! Labeling Statements", as "categoryset" and "sensitivitycategory".
+//!
+//! Start at `category_values`, in `values.rt`: what each declared name holds, a category, an alias or a set of categories.
+//! `specs/Values.antt` says what that is, by equations for all sets at once, and `specs/Places.antt` which category a word stands for.
+//! The parts: `inverse.rt` finds places in an order, `beginning.rt` what names hold at first, `definitions.rt` the declarations of sets
+//! in an order in which each set is made before it is named, `expressions.rt` what one of them says, `making.rt` makes the sets.
+//!
+//! Not done here: the orders, which are those of cil_mls, and levels. No crate calls this one yet.
+#![tactic(auto)]
+
+mod beginning;
+mod definitions;
+mod expressions;
+mod inverse;
+pub mod laws;
+mod making;
+mod permits;
+mod values;
+
+pub use permits::permitted;
+pub use values::category_values;
