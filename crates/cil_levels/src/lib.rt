@@ -2,9 +2,11 @@
 //! Labeling Statements", as "categoryset" and "sensitivitycategory".
 //!
 //! Start at `category_values`, in `values.rt`: what each declared name holds, a category, an alias or a set of categories.
-//! `specs/Values.antt` says what that is, by equations for all sets at once, and `specs/Places.antt` which category a word stands for.
-//! The parts: `inverse.rt` finds places in an order, `beginning.rt` what names hold at first, `definitions.rt` the declarations of sets
-//! in an order in which each set is made before it is named, `expressions.rt` what one of them says, `making.rt` makes the sets.
+//! `specs/Values.antt` says what that is, by equations for all sets at once, `specs/Places.antt` which category a word stands for, and
+//! `specs/Held.antt` what is answered. `permitted`, in `permits.rt`, says which categories may go with each sensitivity
+//! (`specs/Permitted.antt`). The parts: `inverse.rt` finds places in an order, `beginning.rt` what names hold at first, `definitions.rt`
+//! the declarations of sets in an order in which each set is made before it is named, `expressions.rt` what a statement says, and
+//! `making.rt` makes the sets. `laws.rt` says that the equations have one solution where no set depends on itself, and what names hold.
 //!
 //! Not done here: the orders, which are those of cil_mls, and levels. No crate calls this one yet.
 #![tactic(auto)]
