@@ -3,21 +3,27 @@
 //!
 //! Start at `left_of` in `change.rt`: of the permissions that rules cover those that constraints and the changes of role leave. A
 //! constraint asks for an `Expr` (`expr.rt`), which is a list of steps (`step.rt`), each operator in front of its operands; `holds` says
-//! whether it is true of a source and a target, and `met` (`mask.rt`) what all constraints on a class leave. `push_said` (`push.rt`)
-//! makes the steps of what a statement says, by operators (`joins.rt`, `variable.rt`) and by what words stand for (`words.rt`).
+//! whether it is true of a source and a target, and `met` (`mask.rt`) what all constraints on a class leave. `constraints` (`gather.rt`)
+//! makes the list of a policy, in its order (`order.rt`), statement by statement (`statement.rt`). `push_said` (`push.rt`) makes the steps
+//! of what a statement says, by operators (`joins.rt`, `variable.rt`) and by what words stand for (`words.rt`).
 //!
 //! `specs/Saying.antt` says what a term asks for, `specs/Contexts.antt` when that is so of two contexts, `specs/Constrained.antt` which
 //! constraints a policy has, and `specs/Compiled.antt` what they are by numbers. `specs/Truth.antt` says when these are true,
-//! `specs/Permitted.antt` and `specs/Changes.antt` what is left, `specs/Order.antt` in which order constraints stand. Not done here: the
-//! pass over the statements of a policy.
+//! `specs/Permitted.antt` and `specs/Changes.antt` what is left, `specs/Order.antt` in which order constraints stand. Not done here: which
+//! roles may change to which, and what levels are.
 #![tactic(auto)]
 
 mod change;
+mod copies;
+mod depth;
 mod expr;
+mod gather;
 mod joins;
 pub mod laws;
 mod mask;
+mod order;
 mod push;
+mod statement;
 mod step;
 #[cfg(test)]
 mod tests;
@@ -26,6 +32,8 @@ mod words;
 
 pub use change::{Row, left_of};
 pub use expr::{Context, Expr, holds};
+pub use gather::constraints;
 pub use mask::{Constraint, met, of_class, permitted, without};
 pub use push::{Standing, push_said};
+pub use statement::push_constraints;
 pub use step::{Equality, LevelPair, Part, Relation, Side, Step};
