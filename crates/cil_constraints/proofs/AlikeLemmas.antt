@@ -18,10 +18,9 @@ use Rattle.cil_constraints.specs.declared.step.Relation.{Relation}
 use Rattle.cil_constraints.specs.declared.variable.Variable.{Variable}
 use Rattle.cil_constraints.specs.Compiled.{ConstraintCase, IsConstraintOf}
 use Rattle.cil_constraints.specs.Constrained.{IsConstraining}
-use Rattle.cil_constraints.specs.Expressions.{Expression}
 use Rattle.cil_constraints.specs.Joins.{joined_or, joins_of}
 use Rattle.cil_constraints.specs.Numbered.{IsExpressionOf}
-use Rattle.cil_constraints.specs.Saying.{all_said, both_there, compared, is_union, leaf_of, leaves, listed, relation_of, said, variable_in, variable_of, with_operand}
+use Rattle.cil_constraints.specs.Saying.{all_said, both_there, compared, is_union, leaf_of, leaves, listed, relation_of, said, variable_in, with_operand}
 use Rattle.cil_constraints.specs.Stated.{AreBehind, CaseBy}
 use Rattle.cil_constraints.proofs.StatedLemmas.{first_or, rest_in}
 

@@ -1,7 +1,7 @@
 -- How deep the expressions in some steps nest.
 use Rattle.std.specs.Prelude.{IsTrue, MatchOption, None, Option, Some, ◌↔◌}
 use Rattle.std.specs.Option.{is_some}
-use Rattle.std.proofs.Common.{◌≡◌, ℕ, suc, ◌≤◌, ◌<◌, ◌-◌, max, Bool, true, false, List, [], ◌∷◌, drop, get_or, length, take, refl, sym, ◌∙◌, ap, subst, arith}
+use Rattle.std.proofs.Common.{◌≡◌, ℕ, suc, ◌≤◌, ◌<◌, ◌-◌, max, Bool, List, [], ◌∷◌, drop, get_or, length, take, refl, sym, ◌∙◌, ap, subst, arith}
 use Rattle.std.proofs.lemmas.Bool.{true≢false}
 use Rattle.std.proofs.lemmas.List.{take_all}
 use Rattle.cil_base.specs.Places.{cons_head, cons_tail}
@@ -13,7 +13,7 @@ use Rattle.cil_constraints.specs.declared.step.Equality.{Equality}
 use Rattle.cil_constraints.specs.declared.step.LevelPair.{LevelPair}
 use Rattle.cil_constraints.specs.declared.step.Relation.{Relation}
 use Rattle.cil_constraints.specs.Depth.{AreBehind, AreDeeper, IsBehind, IsDeeper}
-use Rattle.cil_constraints.specs.Expressions.{Expression, Negated, Both, Either, Compared, Ranked, Inside, IsExpression, levels_of, steps_of, trees}
+use Rattle.cil_constraints.specs.Expressions.{Expression, Negated, Both, Either, Compared, Ranked, Inside, levels_of, steps_of, trees}
 use Rattle.cil_constraints.proofs.OneTree.{one_tree}
 use Rattle.cil_constraints.proofs.Reading.{joined_is, negated_is}
 

@@ -1,14 +1,13 @@
 -- The constraints of all statements.
 use Rattle.std.specs.Prelude.{Contains, Some, slice_get, true, false, ◌⊎◌, ◌↔◌}
-use Rattle.std.specs.declared.cmp.Ordering.{Ordering}
 use Rattle.std.specs.List.Retain.{DiffersFromLast, IsFiltered}
 use Rattle.std.specs.List.Sorted.{IsPermutation, IsSorted}
 use Rattle.std.specs.Ordering.{eq_by_cmp}
-use Rattle.std.proofs.Common.{◌≡◌, ℕ, ◌+◌, ◌<◌, ◌≤◌, Bool, List, [], ◌∷◌, ◌++◌, length, take, refl, sym, ◌∙◌, ap, subst, inl, inr}
+use Rattle.std.proofs.Common.{◌≡◌, ℕ, ◌+◌, ◌<◌, Bool, List, [], ◌∷◌, ◌++◌, length, take, refl, sym, ◌∙◌, ap, subst, inl, inr}
 use Rattle.std.proofs.lemmas.List.{take_more}
 use Rattle.std.proofs.lemmas.List.Elements.{Contains-append_left, Contains-append_right, Contains-append_cases}
 use Rattle.cil_base.specs.Gives.{Gives}
-use Rattle.cil_base.specs.Lists.{Lists, contains_none}
+use Rattle.cil_base.specs.Lists.{contains_none}
 use Rattle.cil_base.specs.Places.{get_so}
 use Rattle.cil_base.specs.Records.{AreRecordsOf}
 use Rattle.cil_base.proofs.SortedLists.{sorted_list}

@@ -1,5 +1,5 @@
 -- The constraints of one statement.
-use Rattle.std.specs.Prelude.{Contains, Option, Some, None, IsBitSet}
+use Rattle.std.specs.Prelude.{Contains, Option, Some, None}
 use Rattle.std.proofs.Common.{◌≡◌, ℕ, suc, ◌++◌, Bool, true, false, List, [], ◌∷◌, drop, get_or, length, map, refl, sym, ◌∙◌, ap, subst, inl, inr}
 use Rattle.std.proofs.Math.Seq.{drop-append_seam}
 use Rattle.std.proofs.lemmas.Bool.{true≢false}
@@ -7,7 +7,6 @@ use Rattle.std.proofs.lemmas.List.{append-nil, length-map, map-append}
 use Rattle.std.proofs.lemmas.Option.{none-some, same_Some}
 use Rattle.cil_base.specs.Lists.{contains_cases, contains_here, contains_none}
 use Rattle.cil_base.specs.MadeLists.{contains_map, from_map}
-use Rattle.cil_base.specs.Records.{AreRecordsOf}
 use Rattle.cil_syntax.specs.declared.kind.Kind.{Kind}
 use Rattle.cil_syntax.specs.declared.kind.Kind.TheVariants as kinds
 use Rattle.cil_syntax.specs.declared.term.Term as rust
@@ -29,7 +28,7 @@ use Rattle.cil_classes.specs.Perms.{AreMasksOf, IsMaskOfClass}
 use Rattle.cil_classes.proofs.PartLemmas.{one_class}
 use Rattle.cil_constraints.specs.declared.mask.Constraint.{Constraint}
 use Rattle.cil_constraints.specs.declared.step.Step.{Step}
-use Rattle.cil_constraints.specs.Compiled.{ConstraintCase, HasBit, IsConstraintOf}
+use Rattle.cil_constraints.specs.Compiled.{ConstraintCase, IsConstraintOf}
 use Rattle.cil_constraints.specs.Constrained.{IsConstraining}
 use Rattle.cil_constraints.specs.Expressions.{Expression, steps_of}
 use Rattle.cil_constraints.specs.Numbered.{IsExpressionOf}

@@ -9,8 +9,8 @@
 //!
 //! `specs/Saying.antt` says what a term asks for, `specs/Contexts.antt` when that is so of two contexts, `specs/Constrained.antt` which
 //! constraints a policy has, and `specs/Compiled.antt` what they are by numbers. `specs/Truth.antt` says when these are true,
-//! `specs/Permitted.antt` and `specs/Changes.antt` what is left, `specs/Order.antt` in which order constraints stand. Not done here: which
-//! roles may change to which, and what levels are.
+//! `specs/Permitted.antt` and `specs/Changes.antt` what is left, `specs/Order.antt` in which order constraints stand. Not done here: the
+//! changes of role that a policy lets, which are handed in.
 #![tactic(auto)]
 
 mod change;

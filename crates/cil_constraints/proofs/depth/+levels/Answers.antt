@@ -1,6 +1,4 @@
-use Rattle.std.specs.Prelude.{List}
 use Rattle.std.proofs.Common.{sym, ◌∙◌}
-use Rattle.cil_constraints.specs.declared.step.Step.{Step}
 use Rattle.cil_constraints.proofs.DepthLemmas.{from_and, from_first, from_inside, from_levels, from_not, from_or, from_parts, no_level, no_step}
 use Rattle.cil_constraints.proofs.depth.+levels.Goals as goal
 

@@ -1,5 +1,5 @@
 use Rattle.std.specs.Prelude.{option_map}
-use Rattle.std.proofs.Common.{◌≡◌, ◌<◌, ◌≤◌, ◌∙◌, ap, length, map, arith}
+use Rattle.std.proofs.Common.{◌<◌, ◌≤◌, ◌∙◌, ap, length, map, arith}
 use Rattle.std.proofs.lemmas.Option.{slice_get-map}
 use Rattle.cil_base.proofs.RecordLemmas.{all_records}
 use Rattle.cil_macros.specs.Items.{item_at, items_in}

@@ -1,4 +1,4 @@
-use Rattle.std.specs.Prelude.{◌≡◌, ◌↔◌, ℕ, List, take, true}
+use Rattle.std.specs.Prelude.{◌≡◌, ◌↔◌, take, true}
 use Rattle.cil_macros.specs.Items.{items_in}
 use Rattle.cil_base.specs.Records.{AreRecordsOf}
 use Rattle.cil_mls.specs.OrderFaults.{Switches}
