@@ -57,7 +57,7 @@ fn expression_of(alloc: Global, steps: &[Step]) -> Result<Expr, NoMemory>
 }
 
 /// A copy of these steps.
-fn copies_of(alloc: Global, steps: &[Step]) -> Result<Vec<Step>, NoMemory>
+pub(crate) fn copies_of(alloc: Global, steps: &[Step]) -> Result<Vec<Step>, NoMemory>
     ensures { IfOk result (λ copies. copies.items ≡ steps.now) }
 {
     let mut copies = Vec::with_capacity(alloc, steps.len())?;

@@ -15,6 +15,8 @@
 
 mod change;
 mod copies;
+#[cfg(test)]
+mod copy_tests;
 mod depth;
 mod expr;
 mod gather;

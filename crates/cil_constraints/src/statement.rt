@@ -165,8 +165,9 @@ fn push_stated(
     Ok(())
 }
 
-/// Makes the steps of what a term asks for, in place of others, and answers whether it asks for something. Terms nest less than 128 deep in
-/// a text, but a list that is an argument brings its own depth: an expression of more than 128 levels is answered as out of memory.
+/// Makes the steps of what a term asks for, in place of others, and answers whether it asks for something. Texts nest 128 deep, so what is
+/// written has fewer levels than 128. Of lists that are arguments this is not known here, so levels are counted, and an expression of more
+/// than 128 is answered as out of memory.
 fn make_steps(
     alloc: Global,
     steps: &mut Vec<Step>,
