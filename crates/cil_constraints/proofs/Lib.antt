@@ -10,3 +10,9 @@ pub mod NumberTests
 mod TestLemmas
 mod TruthLemmas
 mod WordLemmas
+mod StepLemmas
+mod DepthLemmas
+mod StepLists
+mod GatherLemmas
+mod StatedLemmas
+mod AlikeLemmas

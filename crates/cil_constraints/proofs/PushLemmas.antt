@@ -175,7 +175,7 @@ just_one [] a d e is = absurd (omega (arith, e))
 just_one (x ∷ []) a d e is = ap (λ z. z ∷ []) (sym is)
 just_one (x ∷ y ∷ ts) a d e is = absurd (omega (arith, e))
 
-just_two : (ts : List rust.Term) (a b d e : rust.Term) → length ts ≡ 2 → a ≡ get_or ts 0 d → b ≡ get_or ts 1 e → ts ≡ a ∷ b ∷ []
+pub just_two : (ts : List rust.Term) (a b d e : rust.Term) → length ts ≡ 2 → a ≡ get_or ts 0 d → b ≡ get_or ts 1 e → ts ≡ a ∷ b ∷ []
 just_two [] a b d e len is so = absurd (omega (arith, len))
 just_two (x ∷ []) a b d e len is so = absurd (omega (arith, len))
 just_two (x ∷ y ∷ []) a b d e len is so = λ i. sym is i ∷ sym so i ∷ []

@@ -14,11 +14,11 @@ use Rattle.cil_constraints.specs.declared.expr.Context.{Context}
 use Rattle.cil_constraints.specs.Expressions.{Expression, Negated, Both, Either, Compared, Ranked, Inside, trees, negated, joined}
 use Rattle.cil_constraints.specs.Truth.{truth}
 
-negated_is : (ts es : List (Expression (List ℕ))) (e : Expression (List ℕ)) → negated ts ≡ e ∷ es → (d : Expression (List ℕ)) × (ts ≡ d ∷ es) × (Negated d ≡ e)
+pub negated_is : (ts es : List (Expression (List ℕ))) (e : Expression (List ℕ)) → negated ts ≡ e ∷ es → (d : Expression (List ℕ)) × (ts ≡ d ∷ es) × (Negated d ≡ e)
 negated_is [] es e h = absurd (let f : [] ≡ e ∷ es = h in cc)
 negated_is (d ∷ ts) es e h = (d, ap (λ w. d ∷ w) (cons_tail _ _ _ _ h), cons_head _ _ _ _ h)
 
-joined_is : (f : Expression (List ℕ) → Expression (List ℕ) → Expression (List ℕ)) (ts es : List (Expression (List ℕ))) (e : Expression (List ℕ)) → joined f ts ≡ e ∷ es
+pub joined_is : (f : Expression (List ℕ) → Expression (List ℕ) → Expression (List ℕ)) (ts es : List (Expression (List ℕ))) (e : Expression (List ℕ)) → joined f ts ≡ e ∷ es
     → (c d : Expression (List ℕ)) × (ts ≡ c ∷ d ∷ es) × (f c d ≡ e)
 joined_is f [] es e h = absurd (let g : [] ≡ e ∷ es = h in cc)
 joined_is f (c ∷ []) es e h = absurd (let g : [] ≡ e ∷ es = h in cc)

@@ -1,7 +1,10 @@
 pub mod Compiled
 pub mod Constrained
 pub mod Contexts
+pub mod Depth
 pub mod Expressions
+pub mod ForNames
+pub mod Heads
 pub mod Joins
 pub mod Laws
 pub mod Numbered
@@ -9,5 +12,6 @@ pub mod Order
 pub mod Permitted
 pub mod Pushed
 pub mod Saying
+pub mod Stated
 pub mod Truth
 pub mod Walk
