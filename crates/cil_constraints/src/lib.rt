@@ -34,5 +34,4 @@ pub use expr::{Context, Expr, holds};
 pub use gather::constraints;
 pub use mask::{Constraint, met, of_class, permitted, without};
 pub use push::{Standing, push_said};
-pub use statement::push_constraints;
 pub use step::{Equality, LevelPair, Part, Relation, Side, Step};
