@@ -1,8 +1,9 @@
 //! The orders of sensitivities and of categories, and whether levels are on. A host refuses their statements by name, so no session
 //! shows them.
 
-ghost use Rattle.std.specs.Prelude.{◌≡◌, ◌<◌, All, IsTrue, List, length, map};
-ghost use Rattle.cil_mls.specs.Values.{IsFew};
+ghost use Rattle.std.specs.Prelude.{◌≡◌, ◌<◌, List, length, map};
+ghost use Rattle.cil_faults.specs.declared.fault.Fault.{Fault};
+ghost use Rattle.cil_mls.specs.OrderFaults.{AreOrders, OrderFault};
 ghost use Rattle.cil_syntax.specs.Program.{IsNested};
 ghost use Rattle.cil_blocks.specs.Places.{AreStandings, statements_in};
 ghost use Rattle.cil_macros.specs.Items.{items_in, namespaces_in};
@@ -18,8 +19,9 @@ use crate::growths::show_faults;
 use cil_base::{Bytes, NoMemory};
 use cil_blocks::{Spaces, inherit};
 use cil_known::{Known, Sections, numbered};
+use cil_levels::{category_values, permitted};
 use cil_macros::{Instances, expand};
-use cil_mls::{Categories, Evaluator, Held, MOST_CATEGORIES, Orders, orders, value};
+use cil_mls::{Categories, Held, MOST_CATEGORIES, Orders, orders};
 use cil_modset::ModuleSet;
 use cil_names::{Entry, Lookup, Names, OptSet, Words, commons_of, declare, permissions_of};
 use cil_syntax::{Failure, Keyword, Kind, Program, all_written};
@@ -29,7 +31,8 @@ use std::alloc::Global;
 use std::test::Fail;
 
 /// A text, and what `orders` says of it: a line for each order with the names from the lowest on, and whether levels are on; or the
-/// faults.
+/// faults. Then a line for each statement of a set of categories, and for each sensitivity with which categories may go: its name, and
+/// what `category_values` and `permitted` say of it.
 const ROWS: &[(&str, &str)] = &[
     // nothing is in one order, and so is one item
     ("(type t)", "\n\noff\n"),
@@ -130,6 +133,20 @@ const ROWS: &[(&str, &str)] = &[
     (
         "(category c)(categoryalias k)(categoryaliasactual k c)(categoryset s (k (range c k) (all)))(categoryset t (s))",
         "\nc\noff\ns: c\nt: c\n",
+    ),
+    // a set may be declared before those that it names, twice with the same words, and name an alias
+    (
+        "(category c)(category d)(category e)(categoryorder (c d e))(categoryalias k)(categoryaliasactual k d)(categoryset b (a k))(categoryset a (e))(categoryset n ((not b)))",
+        "\nc d e\noff\nb: d e\na: e\nn: c\n",
+    ),
+    (
+        "(category c)(category d)(categoryorder (c d))(categoryset a (c))(categoryset b (a))(categoryset a (c))",
+        "\nc d\noff\na: c\nb: c\na: c\n",
+    ),
+    // what may go with a sensitivity is what all statements permit it, by any of its names; with another one goes nothing
+    (
+        "(sensitivity s)(sensitivity t)(sensitivity u)(sensitivityorder (u t s))(sensitivityalias k)(sensitivityaliasactual k s)(category c)(category d)(category e)(categoryorder (c d e))(categoryset b (d e))(sensitivitycategory s (c))(sensitivitycategory u b)(sensitivitycategory k (e))",
+        "u t s\nc d e\noff\nb: d e\nu: d e\ns: c e\n",
     ),
     // levels are on, off, and both
     ("(mls true)", "\n\non\n"),
@@ -339,7 +356,7 @@ fn show_looked_up(
     show_orders(alloc, instances, &known, &numbering.sections, out)
 }
 
-/// Adds the lines of both orders, and whether levels are on; or those of the faults.
+/// Adds the lines of both orders, whether levels are on, and what names stand for; or the lines of the faults.
 fn show_orders(
     alloc: Global,
     instances: &Instances,
@@ -355,18 +372,37 @@ fn show_orders(
     match orders(alloc, instances, known, sections) {
         Ok(orders) => {
             show_found(sections, &orders, out)
-                && show_sets(
-                    alloc,
-                    instances,
-                    known,
-                    sections,
-                    orders.categories.as_slice(),
-                    out,
-                )
+                && show_values(alloc, instances, known, sections, &orders, out)
         }
         Err(Failure::Faults(faults)) => show_faults(alloc, &faults, out),
         Err(Failure::NoMemory) => false,
     }
+}
+
+/// Adds the lines of sets of categories, and of the categories that may go with sensitivities.
+fn show_values(
+    alloc: Global,
+    instances: &Instances,
+    known: &Known,
+    sections: &Sections,
+    orders: &Orders,
+    out: &mut String,
+) -> bool
+    requires namespaces { known.now.lookup.namespaces.now ≡ namespaces_in instances.now }
+    requires table { IsTableOf (map (row_in known.now) (items_in instances.now)) known.now.words.now }
+    requires known { IsKnown known.now (items_in instances.now) (names_of sections.now) }
+    requires apart { AreApart known.now.lookup.names.now (enabled_in known.now) known.now.numbers.now }
+    requires orders { AreOrders (items_in instances.now) (enabled_in known.now) sections.now.sensitivities.items sections.now.categories.items orders.now }
+    requires none { (f : Fault) → OrderFault (items_in instances.now) (enabled_in known.now) f → ⊥ }
+{
+    let Ok(helds) = category_values(alloc, instances, known, sections, orders) else {
+        return false;
+    };
+    let Ok(sets) = permitted(alloc, instances, known, sections, orders, helds.as_slice()) else {
+        return false;
+    };
+    show_sets(instances, known, sections, orders, helds.as_slice(), out)
+        && show_permitted(sections, orders, sets.as_slice(), out)
 }
 
 fn show_found(sections: &Sections, orders: &Orders, out: &mut String) -> bool {
@@ -388,115 +424,95 @@ fn show_found(sections: &Sections, orders: &Orders, out: &mut String) -> bool {
     out.push_str(switch).is_ok()
 }
 
-/// Adds a line for each statement of a set of categories that names categories and sets before it: its name, and its categories.
+/// Adds a line for each statement of a set of categories: its name, and its categories.
 fn show_sets(
-    alloc: Global,
     instances: &Instances,
     known: &Known,
     sections: &Sections,
-    order: &[usize],
+    orders: &Orders,
+    helds: &[Held],
     out: &mut String,
 ) -> bool {
-    let Ok(mut held) = first_held(alloc, known, order) else {
-        return false;
-    };
     for at in 0..instances.len() {
-        if !show_set(instances, known, at, sections, order, &mut held, out) {
+        if !show_set(instances, known, at, sections, orders, helds, out) {
             return false;
         }
     }
     true
 }
 
-/// What entries stand for, but for aliases and sets.
-fn first_held(alloc: Global, known: &Known, order: &[usize]) -> Result<Vec<Held>, NoMemory> {
-    let mut held = Vec::new(alloc);
-    let entries = known.lookup.names.entries();
-    for number in 0..entries.len() {
-        let is_category = entries[number].kind == Kind::Category;
-        held.push(held_at(is_category, place_of(order, known.numbers, number)))?;
-    }
-    Ok(held)
-}
-
-fn held_at(is_category: bool, place: Option<usize>) -> Held {
-    match place {
-        Some(place) if is_category => Held::Category(place),
-        _ => Held::Nothing,
-    }
-}
-
-/// The place of the number of an entry in an order.
-fn place_of(order: &[usize], numbers: &[usize], entry: usize) -> Option<usize> {
-    let number = numbers.get(entry)?;
-    order.iter().position(|other| other == number)
-}
-
-/// Adds the line of the statement at a place, if it is one of a set of categories, and keeps what the set stands for.
+/// Adds the line of the statement at a place, if it is one of a set of categories.
 fn show_set(
     instances: &Instances,
     known: &Known,
     at: usize,
     sections: &Sections,
-    order: &[usize],
-    held: &mut Vec<Held>,
+    orders: &Orders,
+    helds: &[Held],
     out: &mut String,
 ) -> bool
     requires { at < length (items_in instances.now) }
 {
     let statement = instances.statement_there(at);
-    let (Some(name), Some(term)) = (statement.declared_name(), statement.args.as_slice().get(1))
-    else {
+    let Some(name) = statement.declared_name() else {
         return true;
     };
     if statement.keyword != Keyword::CategorySet {
         return true;
     }
-    if !are_few(held.as_slice()) || order.len() > MOST_CATEGORIES {
+    let Some(value) = set_named(known.lookup.names.entries(), name.bytes, helds) else {
         return false;
-    }
-    let by = Evaluator {
-        count: order.len(),
-        held: held.as_slice(),
     };
-    let value = value(&by, term, known.words.row(at)).value;
-    keep(known.lookup.names.entries(), name.bytes, value, held);
     show_value(
         name.bytes,
         &value,
         sections.categories.as_slice(),
-        order,
+        orders.categories.as_slice(),
         out,
     )
 }
 
-/// Whether all places are below 1,024.
-fn are_few(held: &[Held]) -> bool
-    ensures { IsTrue result → All IsFew held.now }
-{
-    held.iter().all(is_few)
-}
-
-fn is_few(held: &Held) -> bool
-    ensures { IsTrue result → IsFew held.now }
-{
-    match held {
-        Held::Category(place) => *place < MOST_CATEGORIES,
-        Held::Nothing | Held::Set(_) => true,
-    }
-}
-
-/// Keeps what a set of this name stands for.
-fn keep(entries: &[Entry], name: &[u8], value: Categories, held: &mut Vec<Held>) {
-    for number in 0..entries.len() {
-        if number < held.len() && is_set_named(&entries[number], name) {
-            held[number] = Held::Set(value);
-        }
+/// The set of categories of this name.
+fn set_named(entries: &[Entry], name: &[u8], helds: &[Held]) -> Option<Categories> {
+    let number = entries.iter().position(|entry| is_set_named(entry, name))?;
+    match helds.get(number)? {
+        Held::Set(value) => Some(*value),
+        Held::Nothing | Held::Category(_) => None,
     }
 }
 
 fn is_set_named(entry: &Entry, name: &[u8]) -> bool {
     entry.kind == Kind::CategorySet && entry.name.as_slice() == name
+}
+
+/// Adds a line for each sensitivity that categories may go with: its name, and these categories.
+fn show_permitted(
+    sections: &Sections,
+    orders: &Orders,
+    sets: &[Categories],
+    out: &mut String,
+) -> bool {
+    let row = orders.sensitivities.as_slice();
+    for place in 0..row.len() {
+        let (Some(name), Some(set)) = (
+            sections.sensitivities.as_slice().get(row[place]),
+            sets.get(place),
+        ) else {
+            return false;
+        };
+        if *set != Categories::none()
+            && !show_value(
+                name.as_slice(),
+                set,
+                sections.categories.as_slice(),
+                orders.categories.as_slice(),
+                out,
+            )
+        {
+            return false;
+        }
+    }
+    true
 }
 
 fn show_value(
