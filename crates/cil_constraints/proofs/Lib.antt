@@ -8,7 +8,7 @@ mod Reading
 mod SaidExamples
 pub mod NumberTests
 mod TestLemmas
-mod TruthLemmas
+pub mod TruthLemmas
 mod WordLemmas
 mod StepLemmas
 mod DepthLemmas

@@ -7,7 +7,7 @@ use Rattle.cil_base.specs.Among.{among}
 use Rattle.cil_base.specs.Lists.{Lists}
 use Rattle.cil_syntax.specs.declared.kind.Kind.{Kind}
 use Rattle.cil_syntax.specs.Scopes.{ScopedWord}
-use Rattle.cil_macros.specs.Item.{Item}
+use Rattle.cil_macros.specs.Item.{Item, OptSet}
 use Rattle.cil_names.specs.declared.entry.Entry.{Entry}
 use Rattle.cil_names.specs.Declarations.{Declared, Symbol}
 use Rattle.cil_names.specs.Entries.{is_declared_in}
@@ -46,9 +46,63 @@ or_tells : (P Q : Type 0) (b c : Bool) → P ↔ (b ≡ true) → Q ↔ (c ≡ t
 or_tells P Q true c p q = (λ h. refl, λ e. inl (p.1 refl))
 or_tells P Q false c p q = (λ h. elim h [ inl x ↦ absurd (let g = p.0 x in cc) | inr y ↦ q.0 y ], λ e. inr (q.1 e))
 
-module _ (k : Known) (xs : List Item) (names : Kind → List (List ℕ)) (known : IsKnown k xs names) (apart : AreApart k.lookup.names.now (enabled_in k) k.numbers.now) where
-  -- ---- numbers and symbols
+-- in the sections of users, of roles and of types each symbol has one number, and each number is that of one declared symbol
+pub record TellApart (xs : List Item) (s : OptSet) (names : Kind → List (List ℕ)) : Type 0 where
+  pub number : (part : Part) (t : Symbol) (n m : ℕ) → IsNumbered (names (kind_of part)) t n → IsNumbered (names (kind_of part)) t m → n ≡ m
+  pub symbol : (part : Part) (t u : Symbol) (n : ℕ) → Declared xs s (kind_of part) t → Declared xs s (kind_of part) u → IsNumbered (names (kind_of part)) t n → IsNumbered (names (kind_of part)) u n → t ≡ u
 
+module _ (xs : List Item) (s : OptSet) (names : Kind → List (List ℕ)) (apart : TellApart xs s names) where
+  numbered : (part : Part) (c : Context) (n : Numbers) → IsContextOf xs s names c n → IsNumbered (names (kind_of part)) (part_of part c) (number_of part n)
+  numbered parts.User c n is = is.user
+  numbered parts.Role c n is = is.role
+  numbered parts.Kind c n is = is.kind
+
+  declared : (part : Part) (c : Context) (n : Numbers) → IsContextOf xs s names c n → Declared xs s (kind_of part) (part_of part c)
+  declared parts.User c n is = is.a_user
+  declared parts.Role c n is = is.a_role
+  declared parts.Kind c n is = is.a_type
+
+  module _ (a b : Context) (n m : Numbers) (sa : IsContextOf xs s names a n) (sb : IsContextOf xs s names b m) where
+    -- ---- comparisons
+
+    compared_tells : (part : Part) → (part_of part a ≡ part_of part b) ↔ ((number_of part n == number_of part m) ≡ true)
+    compared_tells part = (
+      λ e. number_tells _ _ (apart.number part (part_of part b) (number_of part n) (number_of part m)
+          (subst (λ t. IsNumbered (names (kind_of part)) t (number_of part n)) e (numbered part a n sa)) (numbered part b m sb)),
+      λ e. apart.symbol part (part_of part a) (part_of part b) (number_of part n) (declared part a n sa) (declared part b m sb) (numbered part a n sa)
+          (subst (IsNumbered (names (kind_of part)) (part_of part b)) (sym (same_number (number_of part n) (number_of part m) e)) (numbered part b m sb)),
+    )
+
+    among_tells : (part : Part) (words : List ScopedWord) (set : List ℕ) → Lists nat_cmp (HasNumberAmong xs s names part words) set → (c : Context) (j : Numbers)
+        → IsContextOf xs s names c j → IsAmong xs s part words (part_of part c) ↔ (among set (number_of part j) ≡ true)
+    among_tells part words set listed c j same = (
+      λ has. has_back set (number_of part j) ((listed.members (number_of part j)).1 (record { symbol = part_of part c; among = has; numbered = numbered part c j same })),
+      λ e. let has = (listed.members (number_of part j)).0 (has_there set (number_of part j) e) in
+          subst (IsAmong xs s part words)
+          (apart.symbol part has.symbol (part_of part c) (number_of part j) has.among.stands.declared (declared part c j same) has.numbered (numbered part c j same)) has.among,
+    )
+
+    side_tells : (part : Part) (side : Side) (words : List ScopedWord) (set : List ℕ) → Lists nat_cmp (HasNumberAmong xs s names part words) set
+        → IsAmong xs s part words (part_of part (side_of side a b)) ↔ (among set (number_of part (side_of side n m)) ≡ true)
+    side_tells part sides.Source words set listed = among_tells part words set listed a n sa
+    side_tells part sides.Target words set listed = among_tells part words set listed b m sb
+
+    -- ---- expressions
+
+    pub truth_tells : (d : Expression (List ScopedWord)) (e : Expression (List ℕ)) → IsExpressionOf xs s names d e → IsTrueOf xs s a b d ↔ (truth n m e ≡ true)
+    truth_tells (Negated d) e (f, is, of) = rw is (not_tells (IsTrueOf xs s a b d) (truth n m f) (truth_tells d f of))
+    truth_tells (Both c d) e (f, g, is, of, og) =
+        rw is (and_tells (IsTrueOf xs s a b c) (IsTrueOf xs s a b d) (truth n m f) (truth n m g) (truth_tells c f of) (truth_tells d g og))
+    truth_tells (Either c d) e (f, g, is, of, og) =
+        rw is (or_tells (IsTrueOf xs s a b c) (IsTrueOf xs s a b d) (truth n m f) (truth n m g) (truth_tells c f of) (truth_tells d g og))
+    truth_tells (Compared part equality) e is =
+        rw is (asked_tells (part_of part a ≡ part_of part b) equality (number_of part n == number_of part m) (compared_tells part))
+    truth_tells (Ranked pair relation) e is = rw is (rw sa.low (rw sa.high (rw sb.low (rw sb.high (λ h. h, λ h. h)))))
+    truth_tells (Inside part side equality words) e (set, is, listed) =
+        rw is (asked_tells (IsAmong xs s part words (part_of part (side_of side a b))) equality (among set (number_of part (side_of side n m))) (side_tells part side words set listed))
+
+-- where words mean what is known of a policy, its sections tell symbols apart
+module _ (k : Known) (xs : List Item) (names : Kind → List (List ℕ)) (known : IsKnown k xs names) (apart : AreApart k.lookup.names.now (enabled_in k) k.numbers.now) where
   section_of : (part : Part) → has_section (kind_of part) ≡ true
   section_of parts.User = refl
   section_of parts.Role = refl
@@ -77,51 +131,8 @@ module _ (k : Known) (xs : List Item) (names : Kind → List (List ℕ)) (known 
       of_entry kind section i x at is live =
           subst (λ j. IsNumbered (names j) (symbol_of k.lookup.namespaces.now x) (get_or k.numbers.now i 0)) is (known.numbered.at i x at (ap has_section is ∙ section) live)
 
-  numbered : (part : Part) (c : Context) (n : Numbers) → IsContextOf xs (enabled_in k) names c n → IsNumbered (names (kind_of part)) (part_of part c) (number_of part n)
-  numbered parts.User c n is = is.user
-  numbered parts.Role c n is = is.role
-  numbered parts.Kind c n is = is.kind
-
-  declared : (part : Part) (c : Context) (n : Numbers) → IsContextOf xs (enabled_in k) names c n → Declared xs (enabled_in k) (kind_of part) (part_of part c)
-  declared parts.User c n is = is.a_user
-  declared parts.Role c n is = is.a_role
-  declared parts.Kind c n is = is.a_type
-
-  module _ (a b : Context) (n m : Numbers) (sa : IsContextOf xs (enabled_in k) names a n) (sb : IsContextOf xs (enabled_in k) names b m) where
-    -- ---- comparisons
-
-    compared_tells : (part : Part) → (part_of part a ≡ part_of part b) ↔ ((number_of part n == number_of part m) ≡ true)
-    compared_tells part = (
-      λ e. number_tells _ _ (one_number k xs names known (kind_of part) (section_of part) (part_of part b) (number_of part n) (number_of part m)
-          (subst (λ t. IsNumbered (names (kind_of part)) t (number_of part n)) e (numbered part a n sa)) (numbered part b m sb)),
-      λ e. one_symbol (kind_of part) (section_of part) (part_of part a) (part_of part b) (declared part a n sa) (declared part b m sb) (number_of part n) (numbered part a n sa)
-          (subst (IsNumbered (names (kind_of part)) (part_of part b)) (sym (same_number (number_of part n) (number_of part m) e)) (numbered part b m sb)),
-    )
-
-    among_tells : (part : Part) (words : List ScopedWord) (set : List ℕ) → Lists nat_cmp (HasNumberAmong xs (enabled_in k) names part words) set → (c : Context) (j : Numbers)
-        → IsContextOf xs (enabled_in k) names c j → IsAmong xs (enabled_in k) part words (part_of part c) ↔ (among set (number_of part j) ≡ true)
-    among_tells part words set listed c j same = (
-      λ has. has_back set (number_of part j) ((listed.members (number_of part j)).1 (record { symbol = part_of part c; among = has; numbered = numbered part c j same })),
-      λ e. let has = (listed.members (number_of part j)).0 (has_there set (number_of part j) e) in
-          subst (IsAmong xs (enabled_in k) part words)
-          (one_symbol (kind_of part) (section_of part) has.symbol (part_of part c) has.among.stands.declared (declared part c j same) (number_of part j) has.numbered (numbered part c j same)) has.among,
-    )
-
-    side_tells : (part : Part) (side : Side) (words : List ScopedWord) (set : List ℕ) → Lists nat_cmp (HasNumberAmong xs (enabled_in k) names part words) set
-        → IsAmong xs (enabled_in k) part words (part_of part (side_of side a b)) ↔ (among set (number_of part (side_of side n m)) ≡ true)
-    side_tells part sides.Source words set listed = among_tells part words set listed a n sa
-    side_tells part sides.Target words set listed = among_tells part words set listed b m sb
-
-    -- ---- expressions
-
-    pub truth_tells : (d : Expression (List ScopedWord)) (e : Expression (List ℕ)) → IsExpressionOf xs (enabled_in k) names d e → IsTrueOf xs (enabled_in k) a b d ↔ (truth n m e ≡ true)
-    truth_tells (Negated d) e (f, is, of) = rw is (not_tells (IsTrueOf xs (enabled_in k) a b d) (truth n m f) (truth_tells d f of))
-    truth_tells (Both c d) e (f, g, is, of, og) =
-        rw is (and_tells (IsTrueOf xs (enabled_in k) a b c) (IsTrueOf xs (enabled_in k) a b d) (truth n m f) (truth n m g) (truth_tells c f of) (truth_tells d g og))
-    truth_tells (Either c d) e (f, g, is, of, og) =
-        rw is (or_tells (IsTrueOf xs (enabled_in k) a b c) (IsTrueOf xs (enabled_in k) a b d) (truth n m f) (truth n m g) (truth_tells c f of) (truth_tells d g og))
-    truth_tells (Compared part equality) e is =
-        rw is (asked_tells (part_of part a ≡ part_of part b) equality (number_of part n == number_of part m) (compared_tells part))
-    truth_tells (Ranked pair relation) e is = rw is (rw sa.low (rw sa.high (rw sb.low (rw sb.high (λ h. h, λ h. h)))))
-    truth_tells (Inside part side equality words) e (set, is, listed) =
-        rw is (asked_tells (IsAmong xs (enabled_in k) part words (part_of part (side_of side a b))) equality (among set (number_of part (side_of side n m))) (side_tells part side words set listed))
+  pub known_apart : TellApart xs (enabled_in k) names
+  known_apart = record {
+    number = λ part t n m at bt. one_number k xs names known (kind_of part) (section_of part) t n m at bt;
+    symbol = λ part t u n d e at bt. one_symbol (kind_of part) (section_of part) t u d e n at bt;
+  }

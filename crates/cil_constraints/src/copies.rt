@@ -7,7 +7,7 @@ ghost use Rattle.cil_constraints.specs.Stated.{constraint_with};
 use crate::expr::Expr;
 use crate::mask::Constraint;
 use crate::step::Step;
-use cil_base::{NoMemory, short};
+use cil_base::NoMemory;
 use cil_classes::ClassId;
 use std::alloc::Global;
 
@@ -37,10 +37,9 @@ fn push_one(
     requires { IsExpression steps.now }
     ensures { OnOk result (out.new.items ≡ out.old.items ++ constraint_with steps.now one.now ∷ []) }
 {
-    let class = short(one.0.number)?;
     let expr = expression_of(alloc, steps)?;
     out.push(Constraint {
-        class,
+        class: one.0.number,
         mask: one.1,
         expr,
     })?;

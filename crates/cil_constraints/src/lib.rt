@@ -9,7 +9,7 @@
 //! `specs/Saying.antt` says what a term asks for, `specs/Contexts.antt` when that is so of two contexts, `specs/Constrained.antt` which
 //! constraints a policy has, and `specs/Compiled.antt` what they are by numbers. `specs/Truth.antt` says when these are true,
 //! `specs/Permitted.antt` what is left, and `specs/Order.antt` in which order constraints stand. Not done here: changes of role, which
-//! cil_decide asks for. No crate calls this one yet.
+//! cil_decide asks for.
 #![tactic(auto)]
 
 mod copies;

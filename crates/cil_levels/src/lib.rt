@@ -8,7 +8,7 @@
 //! the declarations of sets in an order in which each set is made before it is named, `expressions.rt` what a statement says, and
 //! `making.rt` makes the sets. `laws.rt` says that the equations have one solution where no set depends on itself, and what names hold.
 //!
-//! Not done here: the orders, which are those of cil_mls, and levels. No crate calls this one yet.
+//! Not done here: the orders, which are those of cil_mls, and levels. Only tests call this crate yet.
 #![tactic(auto)]
 
 mod beginning;

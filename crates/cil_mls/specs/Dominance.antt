@@ -1,5 +1,5 @@
 -- When a level dominates another. The SELinux Notebook, "Multi-Level Security and Multi-Category Security".
-use Rattle.std.specs.Prelude.{◌≡◌, ◌↔◌, ℕ, zero, suc, ◌<◌, ◌≤◌, Bool, true, ◌&&◌, ◌||◌, not, leb}
+use Rattle.std.specs.Prelude.{◌≡◌, ◌↔◌, ℕ, zero, suc, ◌<◌, ◌≤◌, Bool, true, ◌&&◌, ◌||◌, not, leb, replicate}
 use Rattle.cil_mls.specs.declared.level.Level.{Level}
 use Rattle.cil_mls.specs.Bits.{in_words}
 
@@ -10,6 +10,10 @@ has l c = in_words l.categories.words c
 -- the same as a fact
 abbrev pub IsIn : Level → ℕ → Type 0
 IsIn l c = has l c ≡ true
+
+-- the level of every context of a policy whose levels are off: the lowest sensitivity, and no category
+abbrev pub no_level : Level
+no_level = record { sensitivity = 0; categories = record { words = replicate 16 0 } }
 
 -- they have the same sensitivity and the same categories
 pub record AreSame (a b : Level) : Type 0 where

@@ -1,7 +1,7 @@
 //! Levels and ranges.
 
-ghost use Rattle.std.specs.Prelude.{◌↔◌, IsTrue};
-ghost use Rattle.cil_mls.specs.Dominance.{Dominates};
+ghost use Rattle.std.specs.Prelude.{◌≡◌, ◌↔◌, IsTrue};
+ghost use Rattle.cil_mls.specs.Dominance.{Dominates, no_level};
 
 use crate::categories::Categories;
 
@@ -24,6 +24,16 @@ pub struct Range {
 }
 
 impl Level {
+    /// The level of every context of a policy whose levels are off: the lowest sensitivity, and no category.
+    pub fn none() -> Level
+        ensures { result ≡ no_level }
+    {
+        Level {
+            sensitivity: 0,
+            categories: Categories { words: [0; 16] },
+        }
+    }
+
     /// Whether this level dominates the other. The SELinux Notebook, "Multi-Level Security and Multi-Category Security": its
     /// sensitivity is not lower, and it has all categories of the other. So each level dominates itself, and of two levels it may be
     /// that neither dominates the other. It costs a step for each of 16 words.

@@ -15,7 +15,7 @@ use cil_macros::Instances;
 use cil_syntax::{Keyword, Op, Term};
 
 /// Whether an enabled `mls` statement turns levels on, or off. It costs a step for each statement.
-pub(crate) fn is_switched(instances: &Instances, known: &Known, on: bool) -> bool
+pub fn is_switched(instances: &Instances, known: &Known, on: bool) -> bool
     ensures { (result ≡ true) ↔ Switches (items_in instances.now) (enabled_in known.now) on }
 {
     for at in 0..instances.len() {

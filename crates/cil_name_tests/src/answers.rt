@@ -5,9 +5,10 @@ ghost use Rattle.cil_names.specs.Entries.{AreEntries};
 ghost use Rattle.cil_names.specs.Unresolved.{ArePermissions};
 
 use cil_blocks::{Spaces, inherit};
+use cil_declare::declare;
 use cil_macros::{Instances, expand};
 use cil_modset::ModuleSet;
-use cil_names::{Names, commons_of, declare, permissions_of};
+use cil_names::{Names, commons_of, permissions_of};
 use cil_syntax::{Bytes, FaultList, Program, all_written, render};
 use cil_text_tests::set_of;
 use std::alloc::Global;

@@ -1,12 +1,12 @@
-//! Statements of levels and constraints, whose meaning is still to come: which names clash, which arguments fit, and which words name nothing.
-//! A host refuses them by name, so no session shows it.
+//! Statements of levels, whose meaning is still to come: which names clash, which arguments fit, and which words name nothing. A host
+//! refuses them by name, so no session shows it.
 
 use crate::answers::{ByNames, Question, show_faults};
 use crate::optional_choices::Judged;
 use cil_blocks::{Spaces, inherit};
+use cil_declare::declare;
 use cil_macros::{Instances, expand};
 use cil_modset::ModuleSet;
-use cil_names::declare;
 use cil_syntax::{Failure, Program, all_written};
 use cil_text_tests::set_of;
 use std::alloc::Global;

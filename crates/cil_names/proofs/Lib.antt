@@ -4,17 +4,8 @@ pub mod AskedPartLemmas
 pub mod CandidateLemmas
 mod CommonExamples
 pub mod DeclLemmas
-pub mod DeclareContents
 pub mod DeclareDecided
-pub mod DeclareDone
-pub mod DeclareEntryLemmas
-pub mod DeclareFaults
-pub mod DeclareLists
-pub mod DeclareNamed
-pub mod DeclareRowLemmas
-pub mod DeclareRunLemmas
-pub mod DeclareScopes
-pub mod DeclareStatements
+pub mod DeclaringLemmas
 pub mod EntryLemmas
 pub mod FillLemmas
 pub mod ListedLemmas

@@ -2,8 +2,6 @@ pub mod Asked
 pub mod AskedParts
 pub mod Classes
 pub mod Declarations
-pub mod DeclareRows
-pub mod DeclareRuns
 pub mod Entries
 pub mod Faults
 pub mod Laws

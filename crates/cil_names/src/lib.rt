@@ -1,8 +1,8 @@
 //! What words name: declared names as entries, and look-up in scopes. Namespaces are numbers, as cil_blocks has them.
 //!
-//! Start at `gather.rt` (`declare`) and `names.rt` (`Names::resolve`, `Names::candidates`); `guesses.rt` guesses where names
-//! are, and `namesakes.rt` checks the guesses. cil_words looks up each word of each statement once, and cil_known numbers the
-//! declared symbols.
+//! Start at `names.rt` (`Names::resolve`, `Names::candidates`); `guesses.rt` guesses where names are, and `namesakes.rt` checks the
+//! guesses. cil_declare gathers the declared names of a policy, cil_words looks up each word of each statement once, and cil_known
+//! numbers the declared symbols.
 //! `specs/Resolves.antt` says what a word names, over statements as `Item.antt` of cil_macros has them; `specs/Declarations.antt`
 //! what is declared; `specs/Entries.antt` how entries and numbers of namespaces stand for that; `laws.rt` says that what a
 //! word means is the entry that it names. `permission_word.rt` has what permission words name
@@ -14,12 +14,9 @@
 pub mod asked;
 mod asked_parts;
 mod by_name;
-mod clash;
 mod commons;
-mod content;
 mod enabled;
 mod entry;
-mod gather;
 mod guesses;
 pub mod laws;
 mod look;
@@ -31,8 +28,6 @@ mod opt_set;
 mod permission_word;
 mod permissions;
 pub mod reading;
-mod row;
-mod run;
 mod same;
 mod shared;
 mod sought;
@@ -44,7 +39,6 @@ mod written_parts;
 pub use asked::word_asked;
 pub use enabled::{flags_of, is_declared};
 pub use entry::Entry;
-pub use gather::declare;
 pub use guesses::{Guesses, hash_of};
 pub use meaning::Meaning;
 pub use name_places::place_among;

@@ -12,8 +12,7 @@ use Rattle.cil_syntax.specs.Table.{entry_of}
 use Rattle.cil_syntax.specs.Terms.{Name, cons}
 use Rattle.cil_macros.specs.Items.{Kept, item_at, says_as_written}
 use Rattle.cil_names.specs.Declarations.{Declaration, declarations, declared_by}
-use Rattle.cil_names.proofs.DeclareRowLemmas.{declares_written, without_kind, without_name}
-use Rattle.cil_names.proofs.DeclareStatements.{begins_there, keyword_there, no_front, there}
+use Rattle.cil_names.proofs.DeclaringLemmas.{begins_there, declares_written, keyword_there, no_front, there, without_kind, without_name}
 use Rattle.cil_optionals.specs.Counts.{declares, is_some_of}
 
 -- a list without a member has none

@@ -6,8 +6,8 @@ ghost use Rattle.cil_syntax.specs.Table.{is_unsupported, later_words, left_out_w
 
 use crate::spelling;
 
-/// The statements that are read, and whose meaning is still to come: levels, constraints and what they rest on.
-const WORDS_TO_COME: [&[u8]; 18] = [
+/// The statements that are read, and whose meaning is still to come: levels, and what rests on them.
+const WORDS_TO_COME: [&[u8]; 17] = [
     b"sensitivity",
     b"sensitivityalias",
     b"sensitivityaliasactual",
@@ -24,7 +24,6 @@ const WORDS_TO_COME: [&[u8]; 18] = [
     b"level",
     b"levelrange",
     b"rangetransition",
-    b"constrain",
     b"mlsconstrain",
 ];
 

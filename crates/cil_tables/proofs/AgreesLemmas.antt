@@ -1,9 +1,6 @@
 -- What the tables of items say is what the items say.
 use Rattle.std.specs.Prelude.{Contains, Some, slice_get}
-use Rattle.std.specs.List.Sorted.{IsStrictlySortedBy}
 use Rattle.std.proofs.Common.{◌≡◌, ℕ, Bool, List, [], ◌∷◌, refl, sym, ◌∙◌, ap, subst, inl, inr}
-use Rattle.std.proofs.lemmas.Cmp.{nat_list_cmp_total}
-use Rattle.std.proofs.lemmas.Map.Lookups.{exact_bytes}
 use Rattle.cil_base.specs.Lists.{Lists, text_cmp}
 use Rattle.cil_base.specs.Places.{get_at, get_contains}
 use Rattle.cil_syntax.specs.declared.kind.Keyword.{Keyword}
@@ -11,12 +8,14 @@ use Rattle.cil_syntax.specs.declared.kind.Keyword.TheVariants as keywords
 use Rattle.cil_syntax.specs.declared.kind.Kind.{Kind}
 use Rattle.cil_syntax.specs.declared.kind.Kind.TheVariants as kinds
 use Rattle.cil_syntax.specs.Terms.{Term, Leaf, Name, Form}
-use Rattle.cil_tables.specs.declared.context.Context.{Context as Numbers}
+use Rattle.cil_constraints.specs.declared.expr.Context.{Context as Numbers}
 use Rattle.cil_classes.specs.declared.row.Class.{Class}
 use Rattle.cil_rules.specs.Rule.{Rule, Target, Types, Itself}
 use Rattle.cil_tables.specs.Agrees.{Agrees, BarsAs, CoverAs, SameContext, SamePermission}
 use Rattle.cil_known.specs.Says.{AreJoined}
-use Rattle.cil_tables.specs.Contexts.{Context, IsValid}
+use Rattle.cil_constraints.specs.Contexts.{Context}
+use Rattle.cil_mls.specs.Dominance.{no_level}
+use Rattle.cil_tables.specs.Contexts.{IsValid}
 use Rattle.cil_conditions.proofs.ConditionLemmas.{branches_agree, chosen_is_said}
 use Rattle.cil_conditions.specs.Conditions.{IsChosen, Settings}
 use Rattle.cil_conditions.specs.Spelled.{AreSameSettings}
@@ -31,7 +30,6 @@ use Rattle.std.proofs.lemmas.Option.{same_Some}
 use Rattle.cil_names.specs.Declarations.{Declared, Symbol, name_of}
 use Rattle.cil_macros.specs.Item.{Item, OptSet}
 use Rattle.cil_syntax.specs.Scopes.{ScopedWord}
-use Rattle.cil_base.proofs.SearchLemmas.{one_number as one_of_key}
 use Rattle.cil_tables.specs.Aliases.{NamesType}
 use Rattle.cil_tables.specs.Meaning.{Bars, IsContext, IsTransition, IsTypeText}
 use Rattle.cil_tables.specs.RoleChanges.{IsBarred, MayChange}
@@ -40,25 +38,10 @@ use Rattle.cil_known.specs.Members.{StandsFor}
 use Rattle.cil_classes.specs.Given.{HasPair}
 use Rattle.cil_rules.proofs.RuleLemmas.{pair_declared}
 use Rattle.cil_tables.specs.Table.{Table, boolean_names}
-use Rattle.cil_classes.specs.Row.{class_cmp}
-use Rattle.cil_base.proofs.NameSearches.{number_is}
-
--- a class has one number in rows that rise by name
-pub one_class_number : (rows : List Class) (i j : ℕ) (r q : Class) → IsStrictlySortedBy class_cmp rows → slice_get rows i ≡ Some r → slice_get rows j ≡ Some q → r.name ≡ q.name → i ≡ j
-one_class_number rows i j r q rising at bt same = one_of_key (λ (c : Class). c.name) text_cmp nat_list_cmp_total exact_bytes rows i j r q rising at bt same
-
-pub one_number : (names : List (List ℕ)) (n m : ℕ) (name : List ℕ) → IsStrictlySortedBy text_cmp names → slice_get names n ≡ Some name → slice_get names m ≡ Some name → n ≡ m
-one_number names n m name rising at bt = (number_is names name m bt rising).only n at
-
--- declared symbols whose qualified names are spelled alike are one
-abbrev pub HaveOneSymbol : List Item → OptSet → Type 0
-HaveOneSymbol xs s = (kind j : Kind) (t u : Symbol) → Declared xs s kind t → Declared xs s j u → name_of t ≡ name_of u → t ≡ u
+use Rattle.cil_tables.proofs.ConstraintLemmas.{meets_as}
+use Rattle.cil_tables.proofs.SymbolLemmas.{HaveOneSymbol, one_class_number, one_number, one_numbered}
 
 module _ (xs : List Item) (s : OptSet) (one : HaveOneSymbol xs s) where
-  -- two symbols with one number are one
-  one_numbered : (names : List (List ℕ)) (n : ℕ) (j k : Kind) (a b : Symbol) → Declared xs s j a → Declared xs s k b → IsNumbered names a n → IsNumbered names b n → a ≡ b
-  one_numbered names n j k a b d e x y = one j k a b d e (same_Some _ _ (sym x ∙ y))
-
   -- a name of a section is that of a declared symbol
   named_symbol : (names : List (List ℕ)) (kind : Kind) → Lists text_cmp (IsNameOf xs s kind) names → (name : List ℕ) (n : ℕ) → slice_get names n ≡ Some name
       → IsNameOf xs s kind name
@@ -77,8 +60,8 @@ module _ (xs : List Item) (s : OptSet) (one : HaveOneSymbol xs s) where
     joined_from : (keyword : Keyword) (j k : Kind) (holders helds : List (List ℕ)) (a b : Symbol) (n m : ℕ) → Declared xs s j a → Declared xs s k b
         → IsNumbered holders a n → IsNumbered helds b m → IsLink xs s keyword j k holders helds (record { holder = n; held = m }) → AreJoined xs s keyword j k a b
     joined_from keyword j k holders helds a b n m d e x y link =
-        subst (λ z. AreJoined xs s keyword j k z b) (one_numbered holders n j j link.holder a link.joined.has_holder.declared d link.holder_number x)
-        (subst (λ z. AreJoined xs s keyword j k link.holder z) (one_numbered helds m k k link.held b link.joined.has_held.declared e link.held_number y) link.joined)
+        subst (λ z. AreJoined xs s keyword j k z b) (one_numbered xs s one holders n j j link.holder a link.joined.has_holder.declared d link.holder_number x)
+        (subst (λ z. AreJoined xs s keyword j k link.holder z) (one_numbered xs s one helds m k k link.held b link.joined.has_held.declared e link.held_number y) link.joined)
 
     -- the type that a text names, by its number
     type_there : (text : List ℕ) (n : ℕ) → IsTypeText t text n → (kind : Symbol) × NamesType xs s text kind × Declared xs s kinds.Type_ kind × IsNumbered t.types kind n
@@ -102,7 +85,7 @@ module _ (xs : List Item) (s : OptSet) (one : HaveOneSymbol xs s) where
         let kind = type_there is.kind n.kind is.a_type in
         let user_at = numbered_there t.users kinds.User is.user n.user is.a_user user in
         let role_at = numbered_there t.roles kinds.Role is.role n.role is.a_role role in (
-          record { user = user.symbol; role = role.symbol; kind = kind.0 },
+          record { user = user.symbol; role = role.symbol; kind = kind.0; low = no_level; high = no_level },
           record {
             written = is.kind;
             parts = is.parts ∙ (λ i. sym user.named i ∷ sym role.named i ∷ is.kind ∷ []);
@@ -117,8 +100,10 @@ module _ (xs : List Item) (s : OptSet) (one : HaveOneSymbol xs s) where
                 joined_from keywords.RoleType kinds.Role kinds.Type_ t.roles t.types _ _ n.role n.kind role.declared kind.2 role_at kind.3 ((table.role_types.members _).0 both.kind),
               )
             ];
+            low = refl;
+            high = refl;
           },
-          record { user = user_at; role = role_at; kind = kind.3; a_user = user.declared; a_role = role.declared; a_type = kind.2 },
+          record { user = user_at; role = role_at; kind = kind.3; low = is.low; high = is.high; a_user = user.declared; a_role = role.declared; a_type = kind.2 },
         )
 
     finds : (text : List ℕ) (c : Context) → IsValid xs s text c → (n : Numbers) × IsContext t text n × SameContext xs s t n c
@@ -126,7 +111,7 @@ module _ (xs : List Item) (s : OptSet) (one : HaveOneSymbol xs s) where
         let user = number_of_symbol t.users kinds.User table.users c.user is.a_user in
         let role = number_of_symbol t.roles kinds.Role table.roles c.role is.a_role in
         let kind = number_of_symbol t.types kinds.Type_ table.types c.kind is.a_type in (
-          record { user = user.0; role = role.0; kind = kind.0 },
+          record { user = user.0; role = role.0; kind = kind.0; low = no_level; high = no_level },
           record {
             user = name_of c.user;
             role = name_of c.role;
@@ -144,15 +129,17 @@ module _ (xs : List Item) (s : OptSet) (one : HaveOneSymbol xs s) where
                     (record { holder = c.role; held = c.kind; joined = both.1; holder_number = role.1; held_number = kind.1 });
               })
             ];
+            low = refl;
+            high = refl;
           },
-          record { user = user.1; role = role.1; kind = kind.1; a_user = is.a_user; a_role = is.a_role; a_type = is.a_type },
+          record { user = user.1; role = role.1; kind = kind.1; low = sym is.low; high = sym is.high; a_user = is.a_user; a_role = is.a_role; a_type = is.a_type },
         )
 
     -- ---- rules
 
     stands_there : (w : ScopedWord) (n : ℕ) (a : Symbol) → Declared xs s kinds.Type_ a → IsNumbered t.types a n → HasNumber xs s t.types w n → StandsFor xs s kinds.Type_ w a
     stands_there w n a d x has =
-        subst (StandsFor xs s kinds.Type_ w) (one_numbered t.types n kinds.Type_ kinds.Type_ has.kind a has.stands.declared d has.numbered x) has.stands
+        subst (StandsFor xs s kinds.Type_ w) (one_numbered xs s one t.types n kinds.Type_ kinds.Type_ has.kind a has.stands.declared d has.numbered x) has.stands
 
     module _ (n m : ℕ) (a b : Symbol) (da : Declared xs s kinds.Type_ a) (db : Declared xs s kinds.Type_ b) (na : IsNumbered t.types a n) (nb : IsNumbered t.types b m) where
       target_there : (term : Term ScopedWord) (target : Target) → IsTargetOf xs s t.types term target → Reaches target n m → IsTarget xs s a b term
@@ -161,7 +148,7 @@ module _ (xs : List Item) (s : OptSet) (one : HaveOneSymbol xs s) where
       target_there (Name at name) target is c = absurd is
       target_there (Form at op parts) target is c =
           let same : n ≡ m = subst (λ z. Reaches z n m) is.1 c in
-          (is.0, one_numbered t.types m kinds.Type_ kinds.Type_ a b da db (subst (IsNumbered t.types a) same na) nb)
+          (is.0, one_numbered xs s one t.types m kinds.Type_ kinds.Type_ a b da db (subst (IsNumbered t.types a) same na) nb)
 
       number_unique : a ≡ b → n ≡ m
       number_unique e = one_number t.types n m (name_of a) table.types.rising na (subst (λ z. IsNumbered t.types z m) (sym e) nb)
@@ -259,7 +246,7 @@ module _ (xs : List Item) (s : OptSet) (one : HaveOneSymbol xs s) where
       let_back joined = (table.role_allows.members _).1 (record { holder = a.role; held = b.role; joined = joined; holder_number = sa.role; held_number = sb.role })
 
       same_role : n.role ≡ m.role → a.role ≡ b.role
-      same_role e = one_numbered t.roles m.role kinds.Role kinds.Role a.role b.role sa.a_role sb.a_role (subst (IsNumbered t.roles a.role) e sa.role) sb.role
+      same_role e = one_numbered xs s one t.roles m.role kinds.Role kinds.Role a.role b.role sa.a_role sb.a_role (subst (IsNumbered t.roles a.role) e sa.role) sb.role
 
       same_number : a.role ≡ b.role → n.role ≡ m.role
       same_number e = one_number t.roles n.role m.role (name_of a.role) table.roles.rising sa.role (subst (λ z. IsNumbered t.roles z m.role) (sym e) sb.role)
@@ -298,5 +285,6 @@ module _ (xs : List Item) (s : OptSet) (one : HaveOneSymbol xs s) where
       allow = cover_as keywords.Allow t.rules.allow table.rules.allow;
       auditallow = cover_as keywords.AuditAllow t.rules.auditallow table.rules.auditallow;
       dontaudit = cover_as keywords.DontAudit t.rules.dontaudit table.rules.dontaudit;
+      constraints = meets_as xs s one t table;
       change = bars_as;
     }

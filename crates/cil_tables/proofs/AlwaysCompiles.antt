@@ -67,6 +67,7 @@ module _ (xs : List Item) (none : (f : Fault) → SetsFault nobody xs f → ⊥)
     user_roles = is.user_roles.rising;
     role_types = is.role_types.rising;
     role_allows = is.role_allows.rising;
+    constraints = is.constraints.rising;
   }
 
 -- ---- the steps

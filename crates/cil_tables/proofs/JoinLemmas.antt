@@ -1,6 +1,6 @@
 -- The table of a policy by its parts.
 use Rattle.std.specs.Prelude.{Contains}
-use Rattle.std.proofs.Common.{◌≡◌, ℕ, List, sym, subst}
+use Rattle.std.proofs.Common.{◌≡◌, ℕ, List, refl, sym, subst}
 use Rattle.cil_base.specs.Gives.{Gives}
 use Rattle.cil_base.specs.Lists.{Lists, text_cmp}
 use Rattle.cil_syntax.specs.declared.kind.Keyword.TheVariants as keywords
@@ -15,15 +15,29 @@ use Rattle.cil_tables.specs.declared.tables.Link.{Link}
 use Rattle.cil_tables.specs.Booleans.{is_default_on}
 use Rattle.cil_index.specs.Sections.{RuleSections}
 use Rattle.cil_tables.specs.Links.{IsLink}
-use Rattle.cil_tables.specs.Compiled.{AreRules, IsTable}
+use Rattle.cil_tables.specs.Compiled.{AreConstraints, AreRules, IsTable}
+use Rattle.cil_constraints.specs.declared.mask.Constraint.{Constraint}
+use Rattle.cil_constraints.specs.declared.step.Part.{Part}
+use Rattle.cil_constraints.specs.declared.step.Part.TheVariants as parts
+use Rattle.cil_constraints.specs.Contexts.{kind_of}
+use Rattle.cil_tables.proofs.ConstraintLemmas.{constraints_moved}
 use Rattle.cil_tables.specs.Named.{IsNameOf}
 use Rattle.cil_classes.specs.ClassRows.{IsRowOf}
 use Rattle.cil_classes.specs.Row.{class_cmp}
 use Rattle.cil_tables.specs.Aliases.{IsAlias}
-use Rattle.cil_tables.specs.Table.{alias_cmp, boolean_names, link_cmp}
+use Rattle.cil_tables.specs.Table.{Table, alias_cmp, boolean_names, link_cmp, names_in}
 
 -- the sections, as a table
-module _ (xs : List Item) (s : OptSet) (names : Kind → List (List ℕ)) (users roles types : List (List ℕ)) (aliases : List Alias) (classes : List Class) (booleans : List Boolean) (user_roles role_types role_allows : List Link) (rules : RuleSections) where
+module _ (xs : List Item) (s : OptSet) (names : Kind → List (List ℕ)) (users roles types : List (List ℕ)) (aliases : List Alias) (classes : List Class) (booleans : List Boolean) (user_roles role_types role_allows : List Link) (rules : RuleSections) (constraints : List Constraint) where
+  -- the table, by these names
+  abbrev made : Table
+  made = record { users = names kinds.User; roles = names kinds.Role; types = names kinds.Type_; type_aliases = aliases; classes = classes; booleans = booleans; user_roles = user_roles; role_types = role_types; role_allows = role_allows; rules = rules; constraints = constraints }
+
+  same_names : (part : Part) → names (kind_of part) ≡ names_in made (kind_of part)
+  same_names parts.User = refl
+  same_names parts.Role = refl
+  same_names parts.Kind = refl
+
   pub table_of : users ≡ names kinds.User → roles ≡ names kinds.Role → types ≡ names kinds.Type_
       → Lists text_cmp (IsNameOf xs s kinds.User) (names kinds.User) → Lists text_cmp (IsNameOf xs s kinds.Role) (names kinds.Role) → Lists text_cmp (IsNameOf xs s kinds.Type_) (names kinds.Type_)
       → Lists text_cmp (IsNameOf xs s kinds.Boolean) (names kinds.Boolean) → boolean_names booleans ≡ names kinds.Boolean
@@ -34,11 +48,12 @@ module _ (xs : List Item) (s : OptSet) (names : Kind → List (List ℕ)) (users
       → Lists link_cmp (IsLink xs s keywords.RoleType kinds.Role kinds.Type_ (names kinds.Role) (names kinds.Type_)) role_types
       → Lists link_cmp (IsLink xs s keywords.RoleAllow kinds.Role kinds.Role (names kinds.Role) (names kinds.Role)) role_allows
       → AreRules xs s (names kinds.Type_) classes (names kinds.Boolean) rules
-      → IsTable xs s (record { users = users; roles = roles; types = types; type_aliases = aliases; classes = classes; booleans = booleans; user_roles = user_roles; role_types = role_types; role_allows = role_allows; rules = rules })
-  table_of u r t us rs ts bs b ds of_aliases cs urs rts ras ru =
-      subst (λ (z : List (List ℕ)). IsTable xs s (record { users = z; roles = roles; types = types; type_aliases = aliases; classes = classes; booleans = booleans; user_roles = user_roles; role_types = role_types; role_allows = role_allows; rules = rules })) (sym u)
-      (subst (λ (z : List (List ℕ)). IsTable xs s (record { users = names kinds.User; roles = z; types = types; type_aliases = aliases; classes = classes; booleans = booleans; user_roles = user_roles; role_types = role_types; role_allows = role_allows; rules = rules })) (sym r)
-      (subst (λ (z : List (List ℕ)). IsTable xs s (record { users = names kinds.User; roles = names kinds.Role; types = z; type_aliases = aliases; classes = classes; booleans = booleans; user_roles = user_roles; role_types = role_types; role_allows = role_allows; rules = rules })) (sym t)
+      → AreConstraints xs s names classes constraints
+      → IsTable xs s (record { users = users; roles = roles; types = types; type_aliases = aliases; classes = classes; booleans = booleans; user_roles = user_roles; role_types = role_types; role_allows = role_allows; rules = rules; constraints = constraints })
+  table_of u r t us rs ts bs b ds of_aliases cs urs rts ras ru con =
+      subst (λ (z : List (List ℕ)). IsTable xs s (record { users = z; roles = roles; types = types; type_aliases = aliases; classes = classes; booleans = booleans; user_roles = user_roles; role_types = role_types; role_allows = role_allows; rules = rules; constraints = constraints })) (sym u)
+      (subst (λ (z : List (List ℕ)). IsTable xs s (record { users = names kinds.User; roles = z; types = types; type_aliases = aliases; classes = classes; booleans = booleans; user_roles = user_roles; role_types = role_types; role_allows = role_allows; rules = rules; constraints = constraints })) (sym r)
+      (subst (λ (z : List (List ℕ)). IsTable xs s (record { users = names kinds.User; roles = names kinds.Role; types = z; type_aliases = aliases; classes = classes; booleans = booleans; user_roles = user_roles; role_types = role_types; role_allows = role_allows; rules = rules; constraints = constraints })) (sym t)
       (record {
         users = us;
         roles = rs;
@@ -50,4 +65,5 @@ module _ (xs : List Item) (s : OptSet) (names : Kind → List (List ℕ)) (users
         role_types = rts;
         role_allows = ras;
         rules = subst (λ (z : List (List ℕ)). AreRules xs s (names kinds.Type_) classes z rules) (sym b) ru;
+        constraints = constraints_moved xs s names (names_in made) same_names classes constraints con;
       })))

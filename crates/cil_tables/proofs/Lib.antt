@@ -1,7 +1,9 @@
 pub mod AgreesLemmas
 pub mod AliasLemmas
 pub mod AlwaysCompiles
+pub mod BooleanLemmas
 pub mod CompileLemmas
+pub mod ConstraintLemmas
 pub mod FamilyExists
 pub mod Finite
 pub mod FiniteCommons
@@ -16,9 +18,10 @@ pub mod JoinLemmas
 pub mod LinkLemmas
 pub mod NamedLemmas
 pub mod NoGifts
+pub mod OneConstraints
 pub mod OneTable
 pub mod PlainLemmas
 pub mod SpaceLemmas
+pub mod SymbolLemmas
 pub mod TablesExist
 pub mod WideClasses
-pub mod BooleanLemmas

@@ -1,9 +1,7 @@
 -- Modules have one answer.
 use Rattle.std.specs.Prelude.{Contains, ◌↔◌, slice_get, IsBitSet}
 use Rattle.std.specs.Ordering.{nat_cmp}
-use Rattle.std.specs.Int.{bit_at}
 use Rattle.std.specs.List.Sorted.{IsStrictlySortedBy}
-use Rattle.std.proofs.lemmas.Nat.Bits.{bit_at-lt, same_from_bits}
 use Rattle.std.proofs.Common.{◌≡◌, ℕ, Bool, zero, suc, true, ◌<◌, List, [], ◌∷◌, length, refl, sym, ◌∙◌, ap, subst, inl, inr, arith}
 use Rattle.std.proofs.lemmas.Cmp.{nat_cmp_total, nat_list_cmp_total, on_total}
 use Rattle.cil_base.specs.Lists.{Lists, text_cmp, one_list, same_members}
@@ -22,7 +20,7 @@ use Rattle.cil_rules.specs.Rule.{Rule, Target, Types, Itself}
 use Rattle.cil_tables.specs.Agrees.{Compiles}
 use Rattle.cil_rules.specs.Records.{Case, HasBit, HasNumber, IsRuleOf, IsTargetOf, spelled}
 use Rattle.cil_tables.specs.Links.{IsLink}
-use Rattle.cil_tables.specs.Compiled.{AreRules, AreRulesOf, IsTable}
+use Rattle.cil_tables.specs.Compiled.{AreConstraints, AreRules, AreRulesOf, IsTable}
 use Rattle.cil_tables.specs.Named.{IsNameOf}
 use Rattle.cil_classes.specs.ClassRows.{IsRowOf}
 use Rattle.std.proofs.lemmas.Option.{same_Some}
@@ -37,11 +35,15 @@ use Rattle.cil_tables.specs.Booleans.{is_default_on}
 use Rattle.cil_tables.specs.declared.tables.Boolean.{Boolean}
 use Rattle.cil_conditions.proofs.ConditionLemmas.{has_one_spelling}
 use Rattle.cil_conditions.specs.Spelled.{HasOneNumber}
-use Rattle.cil_tables.specs.Table.{Table, alias_cmp, alias_total, boolean_names, link_cmp, link_total}
+use Rattle.cil_tables.specs.Table.{Table, alias_cmp, alias_total, boolean_names, link_cmp, link_total, names_in}
 use Rattle.cil_classes.specs.Row.{class_cmp}
 use Rattle.cil_rules.specs.Order.{rule_cmp, rule_total, same_rules}
-use Rattle.cil_tables.proofs.AgreesLemmas.{one_class_number, one_number}
-use Rattle.cil_classes.proofs.BitLemmas.{set_is_one}
+use Rattle.cil_tables.proofs.ConstraintLemmas.{constraints_moved}
+use Rattle.cil_tables.proofs.OneConstraints.{one_constraints, same_masks}
+use Rattle.cil_tables.proofs.SymbolLemmas.{one_class_number, one_number}
+use Rattle.cil_constraints.specs.declared.step.Part.{Part}
+use Rattle.cil_constraints.specs.declared.step.Part.TheVariants as parts
+use Rattle.cil_constraints.specs.Contexts.{kind_of}
 use Rattle.cil_tables.proofs.CompileLemmas.{policy_moved}
 
 -- ---- one list of faults
@@ -62,28 +64,13 @@ one_list_of_faults modules faults others a b = one_first (steps modules) faults 
 
 -- ---- one table
 
-below_two : (m n : ℕ) → m < 2 → n < 2 → (m ≡ 1 → n ≡ 1) → (n ≡ 1 → m ≡ 1) → m ≡ n
-below_two zero zero l k there back = refl
-below_two zero (suc zero) l k there back = back refl
-below_two (suc zero) zero l k there back = sym (there refl)
-below_two (suc zero) (suc zero) l k there back = refl
-below_two (suc (suc m)) n l k there back = absurd (omega (arith, l))
-below_two m (suc (suc n)) l k there back = absurd (omega (arith, k))
-
--- masks with the same bits are one
-same_masks : (a b : ℕ) → ((bit : ℕ) → IsBitSet a bit ↔ IsBitSet b bit) → a ≡ b
-same_masks a b same =
-    same_from_bits a b
-    (λ i. below_two (bit_at a i) (bit_at b i) (bit_at-lt a i) (bit_at-lt b i) (λ e. (set_is_one b i).0 ((same i).0 ((set_is_one a i).1 e)))
-    (λ e. (set_is_one a i).0 ((same i).1 ((set_is_one b i).1 e))))
-
 same_row : (a b : Class) → a.name ≡ b.name → a.permissions ≡ b.permissions → a ≡ b
 same_row a b n p = λ i. record { name = n i; permissions = p i }
 
 same_table : (t u : Table) → t.users ≡ u.users → t.roles ≡ u.roles → t.types ≡ u.types → t.type_aliases ≡ u.type_aliases → t.classes ≡ u.classes → t.user_roles ≡ u.user_roles
-    → t.role_types ≡ u.role_types → t.role_allows ≡ u.role_allows → t.rules ≡ u.rules → t.booleans ≡ u.booleans → t ≡ u
-same_table t u a b c d e f g j h k =
-    λ i. record { users = a i; roles = b i; types = c i; type_aliases = d i; classes = e i; booleans = k i; user_roles = f i; role_types = g i; role_allows = j i; rules = h i }
+    → t.role_types ≡ u.role_types → t.role_allows ≡ u.role_allows → t.rules ≡ u.rules → t.booleans ≡ u.booleans → t.constraints ≡ u.constraints → t ≡ u
+same_table t u a b c d e f g j h k l =
+    λ i. record { users = a i; roles = b i; types = c i; type_aliases = d i; classes = e i; booleans = k i; user_roles = f i; role_types = g i; role_allows = j i; rules = h i; constraints = l i }
 
 -- booleans with the same names and the same defaults are one list
 same_boolean : (a b : Boolean) → a.name ≡ b.name → a.default ≡ b.default → a ≡ b
@@ -155,6 +142,11 @@ module _ (xs : List Item) (s : OptSet) where
     one_classes : t.classes ≡ u.classes
     one_classes = same_members class_cmp (on_total (λ c. c.name) nat_list_cmp_total) t.classes u.classes a.classes.rising b.classes.rising (rows_within t u a b) (rows_within u t b a)
 
+    same_sections_of : (part : Part) → t.users ≡ u.users → t.roles ≡ u.roles → t.types ≡ u.types → names_in t (kind_of part) ≡ names_in u (kind_of part)
+    same_sections_of parts.User users roles types = users
+    same_sections_of parts.Role users roles types = roles
+    same_sections_of parts.Kind users roles types = types
+
     pub equal_tables : t ≡ u
     equal_tables =
         let users : t.users ≡ u.users = one_list text_cmp nat_list_cmp_total (IsNameOf xs s kinds.User) t.users u.users a.users b.users in
@@ -174,12 +166,16 @@ module _ (xs : List Item) (s : OptSet) where
         let rules : AreRules xs s u.types u.classes (boolean_names u.booleans) t.rules =
         subst (λ z. AreRules xs s z u.classes (boolean_names u.booleans) t.rules) types
         (subst (λ z. AreRules xs s t.types z (boolean_names u.booleans) t.rules) one_classes (subst (λ z. AreRules xs s t.types t.classes z t.rules) booleans a.rules)) in
+        let constraints : AreConstraints xs s (names_in u) u.classes t.constraints =
+        subst (λ (z : List Class). AreConstraints xs s (names_in u) z t.constraints) one_classes
+        (constraints_moved xs s (names_in t) (names_in u) (λ part. same_sections_of part users roles types) t.classes t.constraints a.constraints) in
         same_table t u users roles types (one_list alias_cmp alias_total (IsAlias xs s u.types) t.type_aliases u.type_aliases aliases b.type_aliases) one_classes
         (one_list link_cmp link_total (IsLink xs s keywords.UserRole kinds.User kinds.Role u.users u.roles) t.user_roles u.user_roles user_roles b.user_roles)
         (one_list link_cmp link_total (IsLink xs s keywords.RoleType kinds.Role kinds.Type_ u.roles u.types) t.role_types u.role_types role_types b.role_types)
         (one_list link_cmp link_total (IsLink xs s keywords.RoleAllow kinds.Role kinds.Role u.roles u.roles) t.role_allows u.role_allows role_allows b.role_allows)
         (one_rules u.types u.classes (boolean_names u.booleans) (λ n m name at bt. one_number (boolean_names u.booleans) n m name b.booleans.names.rising at bt) b.classes.rising t.rules u.rules rules b.rules)
         (one_booleans (is_default_on xs s) t.booleans u.booleans a.booleans.defaults b.booleans.defaults booleans)
+        (one_constraints xs s (names_in u) u.classes b.classes.rising t.constraints u.constraints constraints b.constraints)
 
 pub one_table : (modules : List (List ℕ)) (t u : Table) → Compiles modules t → Compiles modules u → t ≡ u
 one_table modules t u a b =

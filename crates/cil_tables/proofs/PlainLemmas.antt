@@ -29,7 +29,7 @@ use Rattle.cil_names.specs.Declarations.{Declaration, Declared, IsDeclaration, S
 use Rattle.cil_names.specs.Entries.{AreEntries}
 use Rattle.cil_known.specs.Numbers.{ArePlain, ArePlainNames}
 use Rattle.cil_names.proofs.DeclareDecided.{symbol_by}
-use Rattle.cil_names.proofs.DeclareRowLemmas.{declares_written}
+use Rattle.cil_names.proofs.DeclaringLemmas.{declares_written}
 use Rattle.cil_known.proofs.Qualified.{plain_name, spelled_one, turned_plain}
 use Rattle.cil_tables.proofs.WideClasses.{in_front, of_own_kind}
 

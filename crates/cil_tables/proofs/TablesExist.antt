@@ -31,7 +31,12 @@ use Rattle.cil_rules.specs.Records.{Case, HasBit, HasNumber, HasTarget, IsCase, 
 use Rattle.cil_tables.specs.Links.{IsLink}
 use Rattle.cil_tables.specs.Booleans.{AreBooleans, is_default_on}
 use Rattle.cil_tables.specs.declared.tables.Boolean.{Boolean}
-use Rattle.cil_tables.specs.Compiled.{AreRules, AreRulesOf, IsTable}
+use Rattle.cil_tables.specs.Compiled.{AreConstraints, AreRules, AreRulesOf, IsTable}
+use Rattle.cil_tables.specs.Laws.{is_flat}
+use Rattle.cil_constraints.specs.Constrained.{IsConstraining}
+use Rattle.cil_constraints.specs.Order.{constraint_cmp}
+use Rattle.cil_syntax.specs.declared.kind.Kind.{Kind}
+use Rattle.std.proofs.lemmas.Bool.{true≢false}
 use Rattle.cil_tables.specs.Named.{IsNameOf}
 use Rattle.cil_classes.specs.ClassRows.{IsRowOf}
 use Rattle.cil_names.specs.Declarations.{Declared, Symbol, name_of}
@@ -246,6 +251,22 @@ module _ (xs : List Item) (plain : HaveFlatKeywords xs) where
     no_aliases : (types : List (List ℕ)) → Lists alias_cmp (IsAlias xs nobody types) []
     no_aliases types = record { rising = none_rise; members = λ r. (λ c. absurd (contains_none r c), λ a. absurd (no_alias xs plain nobody a.alias a.an_alias)) }
 
+    -- no statement is a constraint
+    never_constraining : (keyword : Keyword) → is_flat keyword ≡ true → IsConstraining xs nobody keyword → ⊥
+    never_constraining keyword is (inl e) = true≢false (sym is ∙ ap is_flat e)
+    never_constraining keyword is (inr e) = true≢false (sym is ∙ ap is_flat e.0)
+
+    constraints_rise : IsStrictlySortedBy constraint_cmp []
+    unfolding IsStrictlySortedBy
+    constraints_rise = tt
+
+    no_constraints : (names : Kind → List (List ℕ)) (rows : List Class) → AreConstraints xs nobody names rows []
+    no_constraints names rows = record {
+      rising = constraints_rise;
+      each = λ k is. absurd (never_constraining is.keyword (sym (ap is_flat is.statement.is_keyword) ∙ plain is.statement.item is.statement.is_item) is.constraining);
+      only = λ c h. absurd (contains_none c h);
+    }
+
     pub tables : (t : Table) × IsTable xs nobody t
     tables =
         let users = names_of (IsNameOf xs nobody kinds.User) (finite_names xs nobody kinds.User) in
@@ -270,6 +291,7 @@ module _ (xs : List Item) (plain : HaveFlatKeywords xs) where
             role_types = role_types.list;
             role_allows = role_allows.list;
             rules = given.0;
+            constraints = [];
           },
           record {
             users = users.lists;
@@ -282,5 +304,6 @@ module _ (xs : List Item) (plain : HaveFlatKeywords xs) where
             role_types = role_types.lists;
             role_allows = role_allows.lists;
             rules = subst (λ (z : List (List ℕ)). AreRules xs nobody types.list classes.0 z given.0) (sym (same_names booleans.list)) given.1;
+            constraints = no_constraints _ classes.0;
           },
         )

@@ -3,9 +3,14 @@ use Rattle.std.specs.Prelude.{◌≡◌, ◌↔◌, ℕ, Bool, List, [], slice_g
 use Rattle.cil_syntax.specs.declared.kind.Keyword.{Keyword}
 use Rattle.cil_syntax.specs.declared.kind.Keyword.TheVariants as keywords
 use Rattle.cil_syntax.specs.declared.kind.Kind.TheVariants as kinds
-use Rattle.cil_tables.specs.declared.context.Context.{Context as Numbers}
+use Rattle.cil_constraints.specs.declared.expr.Context.{Context as Numbers}
+use Rattle.cil_constraints.specs.Constrained.{IsConstrained}
+use Rattle.cil_constraints.specs.Contexts.{Context, IsTrueOf}
+use Rattle.cil_constraints.specs.Expressions.{Expression}
+use Rattle.cil_constraints.specs.Permitted.{AllMet}
+use Rattle.cil_syntax.specs.Scopes.{ScopedWord}
 use Rattle.cil_classes.specs.declared.row.Class.{Class}
-use Rattle.cil_tables.specs.Contexts.{Context, IsValid}
+use Rattle.cil_tables.specs.Contexts.{IsValid}
 use Rattle.cil_rules.specs.Covered.{IsCovered}
 use Rattle.cil_known.specs.Known.{IsNumbered}
 use Rattle.cil_tables.specs.Compiled.{IsTable}
@@ -21,11 +26,13 @@ use Rattle.cil_conditions.specs.Conditions.{Settings}
 use Rattle.cil_conditions.specs.Spelled.{AreSameSettings}
 use Rattle.cil_tables.specs.Table.{Table, boolean_names}
 
--- the numbers of a context are those of three declared symbols
+-- the numbers of a context are those of three declared symbols, and its levels are the same
 pub record SameContext (xs : List Item) (s : OptSet) (t : Table) (n : Numbers) (c : Context) : Type 0 where
   pub user : IsNumbered t.users c.user n.user
   pub role : IsNumbered t.roles c.role n.role
   pub kind : IsNumbered t.types c.kind n.kind
+  pub low : n.low ≡ c.low
+  pub high : n.high ≡ c.high
   pub a_user : Declared xs s kinds.User c.user
   pub a_role : Declared xs s kinds.Role c.role
   pub a_type : Declared xs s kinds.Type_ c.kind
@@ -49,13 +56,24 @@ abbrev pub BarsAs : List Item → OptSet → Table → Type 0
 BarsAs xs s t = (n m : Numbers) (a b : Context) (number bit : ℕ) (c : Symbol) (permission : List ℕ) → SameContext xs s t n a → SameContext xs s t m b → SamePermission xs s t number bit c permission
     → Bars t n m number bit ↔ IsBarred xs s a b c permission
 
--- the tables admit the contexts that are valid, their rules cover what those of the policy cover, and they bar the same changes of role
+-- each constraint of the policy on the permission is true of two contexts
+abbrev pub AllHold : List Item → OptSet → Context → Context → Symbol → List ℕ → Type 0
+AllHold xs s a b c permission = (e : Expression (List ScopedWord)) → IsConstrained xs s c permission e → IsTrueOf xs s a b e
+
+-- their constraints are true where those of the policy are
+abbrev pub MeetsAs : List Item → OptSet → Table → Type 0
+MeetsAs xs s t = (n m : Numbers) (a b : Context) (number bit : ℕ) (c : Symbol) (permission : List ℕ) → SameContext xs s t n a → SameContext xs s t m b → SamePermission xs s t number bit c permission
+    → AllMet n m t.constraints number bit ↔ AllHold xs s a b c permission
+
+-- the tables admit the contexts that are valid, their rules cover what those of the policy cover, their constraints are true where those of the
+-- policy are, and they bar the same changes of role
 pub record Agrees (xs : List Item) (s : OptSet) (t : Table) : Type 0 where
   pub read : (text : List ℕ) (n : Numbers) → IsContext t text n → (c : Context) × IsValid xs s text c × SameContext xs s t n c
   pub found : (text : List ℕ) (c : Context) → IsValid xs s text c → (n : Numbers) × IsContext t text n × SameContext xs s t n c
   pub allow : CoverAs xs s t keywords.Allow t.rules.allow
   pub auditallow : CoverAs xs s t keywords.AuditAllow t.rules.auditallow
   pub dontaudit : CoverAs xs s t keywords.DontAudit t.rules.dontaudit
+  pub constraints : MeetsAs xs s t
   pub change : BarsAs xs s t
 
 -- modules compile to the tables: they have no fault, the tables are those of their policy, and they say what it says

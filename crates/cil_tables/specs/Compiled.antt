@@ -12,7 +12,11 @@ use Rattle.cil_tables.specs.Aliases.{IsAlias}
 use Rattle.cil_tables.specs.Booleans.{AreBooleans}
 use Rattle.cil_tables.specs.Named.{IsNameOf}
 use Rattle.cil_index.specs.Sections.{RuleSections}
-use Rattle.cil_tables.specs.Table.{Table, alias_cmp, boolean_names, link_cmp}
+use Rattle.cil_tables.specs.Table.{Table, alias_cmp, boolean_names, link_cmp, names_in}
+use Rattle.cil_syntax.specs.declared.kind.Kind.{Kind}
+use Rattle.cil_constraints.specs.declared.mask.Constraint.{Constraint}
+use Rattle.cil_constraints.specs.Compiled.{IsConstraintCase, IsConstraintOf}
+use Rattle.cil_constraints.specs.Order.{constraint_cmp}
 use Rattle.cil_classes.specs.Row.{class_cmp}
 use Rattle.cil_rules.specs.Order.{rule_cmp}
 use Rattle.cil_rules.specs.Rule.{Rule}
@@ -31,6 +35,10 @@ pub record AreRules (xs : List Item) (s : OptSet) (types : List (List ℕ)) (cla
   pub auditallow : AreRulesOf xs s types classes booleans keywords.AuditAllow r.auditallow
   pub dontaudit : AreRulesOf xs s types classes booleans keywords.DontAudit r.dontaudit
 
+-- the constraints of enabled statements, by the sections of names and of classes
+abbrev pub AreConstraints : List Item → OptSet → (Kind → List (List ℕ)) → List Class → List Constraint → Type 0
+AreConstraints xs s names classes constraints = Gives constraint_cmp (IsConstraintCase xs s) (IsConstraintOf xs s names classes) constraints
+
 -- the tables of items, where these optionals are enabled
 pub record IsTable (xs : List Item) (s : OptSet) (t : Table) : Type 0 where
   pub users : Lists text_cmp (IsNameOf xs s kinds.User) t.users
@@ -43,3 +51,4 @@ pub record IsTable (xs : List Item) (s : OptSet) (t : Table) : Type 0 where
   pub role_types : Lists link_cmp (IsLink xs s keywords.RoleType kinds.Role kinds.Type_ t.roles t.types) t.role_types
   pub role_allows : Lists link_cmp (IsLink xs s keywords.RoleAllow kinds.Role kinds.Role t.roles t.roles) t.role_allows
   pub rules : AreRules xs s t.types t.classes (boolean_names t.booleans) t.rules
+  pub constraints : AreConstraints xs s (names_in t) t.classes t.constraints

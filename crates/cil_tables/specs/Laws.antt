@@ -28,7 +28,7 @@ pub data Outcome (modules : List (List ℕ)) : Type 0 where
   fails : (faults : List Fault) → ArePolicyFaults modules faults → 0 < length faults → Outcome modules
 
 -- what is neither a block, a macro or an optional, nor opens one; nor an alias, nor a statement that gives an alias or an attribute
--- its members, or a class permission or a permission of a class map what it stands for; nor a statement that forbids rules
+-- its members, or a class permission or a permission of a class map what it stands for; nor a statement that forbids rules, nor a constraint
 abbrev pub is_flat : Keyword → Bool
 is_flat keywords.Block = false
 is_flat keywords.BlockAbstract = false
@@ -49,6 +49,8 @@ is_flat keywords.CategoryAliasActual = false
 is_flat keywords.ClassMapping = false
 is_flat keywords.ClassPermissionSet = false
 is_flat keywords.NeverAllow = false
+is_flat keywords.Constrain = false
+is_flat keywords.MlsConstrain = false
 is_flat keyword = true
 
 -- all that is written in the modules is such
@@ -59,7 +61,8 @@ AreFlatModules modules = (w : Written) → IsWritten modules w → is_flat w.sta
 -- and booleanifs: with them it rests on the contents of blocks and what calls bring being finite, or more than 1,000,000. It is said of
 -- modules without aliases whose attributes have no members: with these it rests on a family of their members. And it is said of modules whose class
 -- permissions and class maps give nothing: with these it rests on the least assignment. Nor do they forbid anything: with that it
--- rests on what two statements cover together being finite
+-- rests on what two statements cover together being finite. And they have no constraints: with these it rests on the numbers for which the
+-- words of each stand
 abbrev pub AlwaysCompilesOrFails : Type 0
 AlwaysCompilesOrFails = (modules : List (List ℕ)) → AreReadable modules → AreFlatModules modules → Outcome modules
 

@@ -1,8 +1,10 @@
 -- How the tables are read: which contexts they admit, and what they answer. The SELinux Notebook, "Security Context" and
--- "Computing Access Decisions"; CIL Reference Guide, "Role Statements" on object_r, and "roleallow".
+-- "Computing Access Decisions"; CIL Reference Guide, "Role Statements" on object_r, "roleallow", and "Constraint Statements".
 use Rattle.std.specs.Prelude.{◌≡◌, ◌⊎◌, ℕ, ◌==◌, Bool, List, [], ◌∷◌, codes, Contains, slice_get, Some}
 use Rattle.std.specs.List.{slice_split}
-use Rattle.cil_tables.specs.declared.context.Context.{Context}
+use Rattle.cil_constraints.specs.declared.expr.Context.{Context}
+use Rattle.cil_constraints.specs.Permitted.{AllMet}
+use Rattle.cil_mls.specs.Dominance.{no_level}
 use Rattle.cil_classes.specs.declared.row.Class.{Class}
 use Rattle.cil_tables.specs.Table.{Table}
 use Rattle.cil_rules.specs.Covers.{HasCover}
@@ -26,7 +28,7 @@ pub record HasBoth (t : Table) (n : Context) : Type 0 where
 abbrev pub IsTypeText : Table → List ℕ → ℕ → Type 0
 IsTypeText t text n = (slice_get t.types n ≡ Some text) ⊎ Contains t.type_aliases record { name = text; target = n }
 
--- the text `user:role:type` is the context of these numbers, and the context is valid
+-- the text `user:role:type` is the context of these numbers, and the context is valid. Its levels are off
 pub record IsContext (t : Table) (text : List ℕ) (n : Context) : Type 0 where
   pub user : List ℕ
   pub role : List ℕ
@@ -36,6 +38,8 @@ pub record IsContext (t : Table) (text : List ℕ) (n : Context) : Type 0 where
   pub a_role : slice_get t.roles n.role ≡ Some role
   pub a_type : IsTypeText t kind n.kind
   pub admitted : (role ≡ object_role) ⊎ HasBoth t n
+  pub low : n.low ≡ no_level
+  pub high : n.high ≡ no_level
 
 -- ---- classes and permissions
 
@@ -74,8 +78,9 @@ pub record Bars (t : Table) (source target : Context) (class_ bit : ℕ) : Type 
 
 -- ---- decisions
 
--- the tables permit it between two contexts, where these booleans are on: some rule of them covers the permission of the bit, and it
--- makes no change of role that they bar
+-- the tables permit it between two contexts, where these booleans are on: some rule of them covers the permission of the bit, each
+-- constraint of them on it is true, and it makes no change of role that they bar
 pub record Permits (t : Table) (on : ℕ → Bool) (source target : Context) (class_ bit : ℕ) : Type 0 where
   pub covered : HasCover on t.rules.allow source.kind target.kind class_ bit
+  pub constraints : AllMet source target t.constraints class_ bit
   pub change : Bars t source target class_ bit → ⊥

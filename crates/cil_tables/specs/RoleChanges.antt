@@ -6,7 +6,7 @@ use Rattle.cil_syntax.specs.declared.kind.Kind.TheVariants as kinds
 use Rattle.cil_names.specs.Declarations.{Symbol, name_of}
 use Rattle.cil_macros.specs.Item.{Item, OptSet}
 use Rattle.cil_known.specs.Says.{AreJoined}
-use Rattle.cil_tables.specs.Contexts.{Context}
+use Rattle.cil_constraints.specs.Contexts.{Context}
 use Rattle.cil_tables.specs.Meaning.{IsTransition, process}
 
 -- a role may change to another

@@ -16,18 +16,19 @@ use Rattle.cil_index.specs.declared.section.NamedRules.{NamedRules}
 use Rattle.cil_known.specs.declared.numbers.Sections.{Sections}
 use Rattle.cil_tables.specs.declared.sections.Given.{Given}
 use Rattle.cil_tables.specs.declared.tables.Boolean.{Boolean}
-use Rattle.cil_tables.specs.Compiled.{AreRules}
+use Rattle.cil_tables.specs.Compiled.{AreConstraints, AreRules}
 use Rattle.cil_tables.specs.Links.{IsLink}
 use Rattle.cil_tables.specs.Aliases.{IsAlias}
 use Rattle.cil_tables.specs.Table.{Table, alias_cmp, link_cmp}
 
--- the links, aliases and rules of enabled statements, by the sections of names and classes
+-- the links, aliases, rules and constraints of enabled statements, by the sections of names and classes
 pub record AreGiven (xs : List Item) (s : OptSet) (names : Kind → List (List ℕ)) (classes : List Class) (g : Given) : Type 0 where
   pub user_roles : Lists link_cmp (IsLink xs s keywords.UserRole kinds.User kinds.Role (names kinds.User) (names kinds.Role)) g.user_roles
   pub role_types : Lists link_cmp (IsLink xs s keywords.RoleType kinds.Role kinds.Type_ (names kinds.Role) (names kinds.Type_)) g.role_types
   pub role_allows : Lists link_cmp (IsLink xs s keywords.RoleAllow kinds.Role kinds.Role (names kinds.Role) (names kinds.Role)) g.role_allows
   pub type_aliases : Lists alias_cmp (IsAlias xs s (names kinds.Type_)) g.type_aliases.items
   pub rules : AreRules xs s (names kinds.Type_) classes (names kinds.Boolean) g.rules
+  pub constraints : AreConstraints xs s names classes g.constraints.items
 
 -- the rules of enabled statements with this first word, as they are handed on
 abbrev pub AreNamedRulesOf : List Item → OptSet → List (List ℕ) → List Class → List (List ℕ) → List Branch → List (List ℕ) → Keyword → List NamedRule → Type 0
@@ -53,4 +54,5 @@ table_from names classes booleans given = record {
   role_types = given.role_types;
   role_allows = given.role_allows;
   rules = given.rules;
+  constraints = given.constraints.items;
 }

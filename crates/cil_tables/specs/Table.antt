@@ -1,7 +1,7 @@
 -- The value of a policy's tables. This project's profile; what the sections hold is what The SELinux Notebook asks for in
 -- "Security Context" and "Computing Access Decisions".
 use Rattle.cil_base.specs.Paths.{both_equal, same_by}
-use Rattle.std.specs.Prelude.{◌≡◌, ℕ, ◌≤◌, List, Contains, length, map}
+use Rattle.std.specs.Prelude.{◌≡◌, ℕ, ◌≤◌, List, [], Contains, length, map}
 use Rattle.std.specs.Cmp.{IsTotalOrder}
 use Rattle.std.specs.Ordering.{nat_cmp, on, then_cmp}
 use Rattle.std.specs.declared.cmp.Ordering.{Ordering}
@@ -16,6 +16,10 @@ use Rattle.cil_tables.specs.declared.tables.Link.{Link}
 use Rattle.cil_tables.specs.declared.tables.Boolean.{Boolean}
 use Rattle.cil_index.specs.Sections.{RuleSections}
 use Rattle.cil_classes.specs.Row.{IsOrderlyClass, class_cmp}
+use Rattle.cil_constraints.specs.declared.mask.Constraint.{Constraint}
+use Rattle.cil_constraints.specs.Order.{constraint_cmp}
+use Rattle.cil_syntax.specs.declared.kind.Kind.{Kind}
+use Rattle.cil_syntax.specs.declared.kind.Kind.TheVariants as kinds
 
 pub record Table : Type 0 where
   pub users : List (List ℕ)
@@ -28,6 +32,14 @@ pub record Table : Type 0 where
   pub role_types : List Link
   pub role_allows : List Link
   pub rules : RuleSections
+  pub constraints : List Constraint
+
+-- the names by which users, roles and types have numbers
+abbrev pub names_in : Table → Kind → List (List ℕ)
+names_in t kinds.User = t.users
+names_in t kinds.Role = t.roles
+names_in t kinds.Type_ = t.types
+names_in t kind = []
 
 -- aliases stand in byte order of their names
 abbrev pub alias_cmp : Alias → Alias → Ordering
@@ -80,3 +92,4 @@ pub record IsOrderly (t : Table) : Type 0 where
   pub user_roles : IsStrictlySortedBy link_cmp t.user_roles
   pub role_types : IsStrictlySortedBy link_cmp t.role_types
   pub role_allows : IsStrictlySortedBy link_cmp t.role_allows
+  pub constraints : IsStrictlySortedBy constraint_cmp t.constraints

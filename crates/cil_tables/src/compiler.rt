@@ -31,13 +31,12 @@ use crate::tables::Tables;
 use cil_base::{Bytes, NoMemory};
 use cil_blocks::{Spaces, inherit};
 use cil_classes::{Classes, classes};
+use cil_declare::declare;
 use cil_faults::{Both, Failure, together};
 use cil_known::{Known, Numbering, Sections, numbered};
 use cil_macros::{Instances, expand};
 use cil_modset::ModuleSet;
-use cil_names::{
-    Lookup, Names as DeclaredNames, Shared, Words, commons_of, declare, permissions_of,
-};
+use cil_names::{Lookup, Names as DeclaredNames, Shared, Words, commons_of, permissions_of};
 use cil_optionals::{
     Chosen, OptionalLine, Reason, WhyLine, greatest_of, optional_lines, why_lines,
 };

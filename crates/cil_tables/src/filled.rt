@@ -32,7 +32,7 @@ use std::alloc::Global;
 pub struct Filled {
     /// The booleans.
     pub booleans: Vec<Boolean>,
-    /// Links, aliases and rules.
+    /// Links, aliases, rules and constraints.
     pub given: Given,
 }
 
@@ -91,6 +91,7 @@ pub(crate) fn tables_from(numbering: Numbering, classes: Classes, filled: Filled
         role_allows,
         type_aliases,
         rules,
+        constraints,
     } = given;
     Tables {
         users: Names::from_vec(users),
@@ -103,5 +104,6 @@ pub(crate) fn tables_from(numbering: Numbering, classes: Classes, filled: Filled
         role_types,
         role_allows,
         rules,
+        constraints,
     }
 }

@@ -18,9 +18,9 @@ pub fn one_list_of_faults()
     ensures { HasOneListOfFaults }
 {}
 
-/// Readable modules compile to tables, or they have a list of faults, if they have no block, macro, optional or booleanif, forbid nothing, and
-/// give no alias, attribute, class permission or class map what it stands for. So there are none of these for which every correct compiler
-/// could only report that memory ran out.
+/// Readable modules compile to tables, or they have a list of faults, if they have no block, macro, optional or booleanif, forbid nothing, have
+/// no constraint, and give no alias, attribute, class permission or class map what it stands for. So there are none of these for which every
+/// correct compiler could only report that memory ran out.
 pub fn always_compiles_or_fails()
     ensures { AlwaysCompilesOrFails }
 {

@@ -10,7 +10,6 @@
 mod aliases;
 mod booleans;
 mod compiler;
-mod context;
 mod filled;
 mod forbidden;
 mod holders;
@@ -21,7 +20,7 @@ mod sections;
 mod standings;
 pub mod tables;
 
+pub use cil_constraints::Context;
 pub use compiler::{Compiled, compile};
-pub use context::Context;
 pub use holders::Links;
 pub use tables::{Alias, Link, Tables};

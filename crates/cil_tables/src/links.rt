@@ -1,5 +1,6 @@
 //! The pairs that statements join: users with roles, roles with types, and roles with those to which they may change. A statement costs
-//! no look-up of a word. It joins each of the one set with each of the other: n statements over two full sets cost n steps for each holder and each block of the other set.
+//! no look-up of a word. It joins each of the one set with each of the other: n statements over two full sets cost n steps for each holder
+//! and each block of the other set.
 
 ghost use Rattle.std.specs.Prelude.{◌≡◌, ◌<◌, [], get_or, length, ℕ, IfOk, List, MatchOption, map, true, false};
 ghost use Rattle.cil_base.specs.Lists.{Lists};

@@ -1,4 +1,4 @@
-//! The sections of a table that statements give: links, aliases and rules.
+//! The sections of a table that statements give: links, aliases, rules and constraints.
 
 ghost use Rattle.std.specs.Prelude.{ℕ, IfOk, List, map};
 ghost use Rattle.std.specs.List.Sorted.{IsStrictlySortedBy};
@@ -15,7 +15,7 @@ ghost use Rattle.cil_classes.specs.NodeOrder.{node_cmp};
 ghost use Rattle.cil_rules.specs.ForNames.{ForNames};
 ghost use Rattle.cil_classes.specs.Row.{AreOrderlyRows};
 ghost use Rattle.cil_conditions.specs.Numbered.{AreBranchesOf};
-ghost use Rattle.cil_tables.specs.Compiled.{AreRules};
+ghost use Rattle.cil_tables.specs.Compiled.{AreConstraints, AreRules};
 ghost use Rattle.cil_tables.specs.Sections.{AreGiven, AreNamedRules};
 ghost use Rattle.cil_tables.specs.Standings.{AllStand};
 
@@ -27,9 +27,11 @@ use crate::tables::Alias;
 use cil_base::NoMemory;
 use cil_classes::{Class, GivenPermissions};
 use cil_conditions::{Branches, branches_of};
+use cil_constraints::{Constraint, Standing, constraints};
 use cil_index::{NamedRules, Sections};
 use cil_known::Known;
 use cil_macros::Instances;
+use cil_mls::is_switched;
 use cil_rules::rules;
 use cil_sets::Numbers;
 use cil_syntax::{Keyword, Kind};
@@ -48,6 +50,8 @@ pub struct Given {
     pub type_aliases: Vec<Alias>,
     /// The rules, each section with its index.
     pub rules: Sections,
+    /// The constraints.
+    pub constraints: Vec<Constraint>,
 }
 
 /// What the enabled statements give, where words stand for these numbers, and class permissions give these permissions. Error: out of memory.
@@ -76,6 +80,7 @@ pub(crate) fn given_of(
     let role_types = links_of(alloc, instances, known, ROLE_TYPES, roles, types)?;
     let role_allows = links_of(alloc, instances, known, ROLE_ALLOWS, roles, roles)?;
     let type_aliases = aliases_of(alloc, known, types)?;
+    let constraints = constraints_given(alloc, instances, known, stand, classes, permissions)?;
     let rules = rules_given(alloc, instances, known, types, classes, permissions)?;
     Ok(Given {
         user_roles,
@@ -83,7 +88,45 @@ pub(crate) fn given_of(
         role_allows,
         type_aliases,
         rules,
+        constraints,
     })
+}
+
+/// The constraints of the enabled statements, where words stand for these users, roles and types, and class permissions give these
+/// permissions. Error: out of memory.
+fn constraints_given(
+    alloc: Global,
+    instances: &Instances,
+    known: &Known,
+    stand: &Standings,
+    classes: &[Class],
+    permissions: &GivenPermissions,
+) -> Result<Vec<Constraint>, NoMemory>
+    requires table { IsTableOf (map (row_in known.now) (items_in instances.now)) known.now.words.now }
+    requires rows { AreOrderlyRows classes.now }
+    requires nodes { IsStrictlySortedBy node_cmp permissions.now.nodes.items }
+    ensures { IfOk result (λ list. (names : kinds.Kind → List (List ℕ)) → IsKnown known.now (items_in instances.now) names
+        → AreApart known.now.lookup.names.now (enabled_in known.now) known.now.numbers.now → AllStand known.now (items_in instances.now) names stand.now
+        → AreClasses (items_in instances.now) (enabled_in known.now) (names variants.Class) classes.now
+        → IsAssigned known.now (items_in instances.now) classes.now permissions.now
+        → AreConstraints (items_in instances.now) (enabled_in known.now) names classes.now list.items) }
+{
+    let levels_on = is_switched(instances, known, true);
+    let sets = Standing {
+        users: stand.users.as_slice(),
+        roles: stand.roles.as_slice(),
+        types: stand.types.as_slice(),
+    };
+    let list = constraints(
+        alloc,
+        instances,
+        known,
+        &sets,
+        classes,
+        permissions,
+        levels_on,
+    )?;
+    Ok(list)
 }
 
 /// The rules of the enabled statements, where words stand for these types, and class permissions give these permissions. Error: out of

@@ -11,6 +11,7 @@ ghost use Rattle.cil_tables.specs.Table.{alias_cmp, alias_total, link_cmp, link_
 use crate::holders::Links;
 use cil_base::{Bytes, Names};
 use cil_classes::Class;
+use cil_constraints::Constraint;
 use cil_index::Sections;
 use std::cmp::Ordering;
 use std::marker::Model;
@@ -136,6 +137,7 @@ pub struct Tables {
     pub(crate) role_types: Links,
     pub(crate) role_allows: Links,
     pub(crate) rules: Sections,
+    pub(crate) constraints: Vec<Constraint>,
 }
 
 impl Model for Tables {
@@ -154,6 +156,7 @@ impl Model for Tables {
       role_types = a.role_types;
       role_allows = a.role_allows;
       rules = a.rules;
+      constraints = a.constraints.items;
     } };
 
     ghost invariant = { λ a. IsOrderly record {
@@ -167,6 +170,7 @@ impl Model for Tables {
       role_types = a.role_types;
       role_allows = a.role_allows;
       rules = a.rules;
+      constraints = a.constraints.items;
     } };
 }
 
@@ -251,5 +255,13 @@ impl Tables {
         ensures rules { result.now ≡ self.now.rules }
     {
         &self.rules
+    }
+
+    /// The constraints, in their order: those on one class stand together.
+    pub fn constraints(&self) -> &[Constraint]
+        ensures constraints { result.now ≡ self.now.constraints }
+        ensures orderly { IsOrderly self.now }
+    {
+        self.constraints.as_slice()
     }
 }

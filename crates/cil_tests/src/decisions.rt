@@ -8,6 +8,7 @@ use cil_decide::{
     permission_named,
 };
 use cil_host::{Host, QueryFault};
+use cil_mls::Level;
 use cil_syntax::Bytes;
 use cil_tables::{Tables, compile};
 use cil_text_tests::set_of;
@@ -35,7 +36,13 @@ fn class_id(number: usize) -> ClassId {
 
 fn context(kind: usize) -> Context {
     let (user, role) = (0, 1);
-    Context { user, role, kind }
+    Context {
+        user,
+        role,
+        kind,
+        low: Level::none(),
+        high: Level::none(),
+    }
 }
 
 /// What is asked of the tables.

@@ -62,7 +62,7 @@ const HELP: &[(&[&str], &str)] = &[
     ),
     (
         &["--help"],
-        "roleallow, allow, auditallow, dontaudit, neverallow, boolean and booleanif;",
+        "roleallow, constrain, allow, auditallow, dontaudit, neverallow, boolean and booleanif;",
     ),
     (&["help"], "Example:"),
     (&["session", "-h"], "Usage: cilhost session [FILE]..."),

@@ -11,13 +11,13 @@ modules, compiles them into a policy, and then answers which permissions a proce
 context has on an object in another. The answers do not depend on the order of the modules.
 
 cilhost accepts the statements type, class, common, classcommon, role, user, roletype, userrole,
-roleallow, allow, auditallow, dontaudit, neverallow, boolean and booleanif; block, blockabstract,
-blockinherit, macro, call and optional; typealias, typealiasactual, typeattribute, typeattributeset,
-roleattribute, roleattributeset, userattribute and userattributeset; and classmap, classmapping,
-classpermission and classpermissionset. Of typetransition, typechange, typemember, roletransition,
-expandtypeattribute and classorder the names are checked, and they have no effect. Statements that
-label files, ports and the like, such as filecon, and settings, such as policycap, are accepted and
-have no effect. For now it refuses everything else in CIL by name, with fault 22.";
+roleallow, constrain, allow, auditallow, dontaudit, neverallow, boolean and booleanif; block,
+blockabstract, blockinherit, macro, call and optional; typealias, typealiasactual, typeattribute,
+typeattributeset, roleattribute, roleattributeset, userattribute and userattributeset; and classmap,
+classmapping, classpermission and classpermissionset. Of typetransition, typechange, typemember,
+roletransition, expandtypeattribute and classorder the names are checked, and they have no effect.
+Statements that label files, ports and the like, such as filecon, and settings, such as policycap,
+are accepted and have no effect. For now it refuses everything else in CIL by name, with fault 22.";
 
 /// How the program is called.
 pub const EXAMPLE: &str = "Example:
@@ -36,13 +36,13 @@ The FILEs are installed from left to right. Then requests are read from standard
 and each reply is written to standard output, until QUIT or the end of the input.
 
 A FILE may have the statements type, class, common, classcommon, role, user, roletype, userrole,
-roleallow, allow, auditallow, dontaudit, neverallow, boolean and booleanif; block, blockabstract,
-blockinherit, macro, call and optional; typealias, typealiasactual, typeattribute, typeattributeset,
-roleattribute, roleattributeset, userattribute and userattributeset; and classmap, classmapping,
-classpermission and classpermissionset. Of typetransition, typechange, typemember, roletransition,
-expandtypeattribute and classorder the names are checked, and they have no effect. Statements that
-label files, ports and the like, such as filecon, and settings, such as policycap, are accepted and
-have no effect. For now LOAD refuses everything else in CIL by name, with fault 22.";
+roleallow, constrain, allow, auditallow, dontaudit, neverallow, boolean and booleanif; block,
+blockabstract, blockinherit, macro, call and optional; typealias, typealiasactual, typeattribute,
+typeattributeset, roleattribute, roleattributeset, userattribute and userattributeset; and classmap,
+classmapping, classpermission and classpermissionset. Of typetransition, typechange, typemember,
+roletransition, expandtypeattribute and classorder the names are checked, and they have no effect.
+Statements that label files, ports and the like, such as filecon, and settings, such as policycap,
+are accepted and have no effect. For now LOAD refuses everything else in CIL by name, with fault 22.";
 
 /// What a file is.
 pub const FILE: &str = "A module, as text in CIL, of at most 4194304 bytes";
@@ -119,8 +119,8 @@ pub const REQUESTS: &str = "Requests:
                           in the context target. A context is user:role:type, where a type t of
                           block b is b.t, and an alias stands for its type. Reply: OK, then the
                           permissions that are allowed, those audited when allowed, and those
-                          audited when denied (- for none), or ERR. A process changes its role only
-                          where a roleallow lets it
+                          audited when denied (- for none), or ERR. Nothing is allowed for which a
+                          constraint is false, nor a change of role that no roleallow lets
   CHECK source target class permission
                           Whether AV of the first three lists this permission as allowed. Reply:
                           OK yes, OK no, or ERR

@@ -7,7 +7,7 @@ use Rattle.cil_macros.specs.Items.{items_in}
 use Rattle.cil_names.specs.Entries.{is_in}
 use Rattle.cil_known.specs.Numbers.{AreApart, AreNumbers, names_of}
 use Rattle.cil_classes.specs.declared.row.Class.{Class}
-use Rattle.cil_tables.specs.Compiled.{AreRules, IsTable}
+use Rattle.cil_tables.specs.Compiled.{AreConstraints, AreRules, IsTable}
 use Rattle.cil_tables.specs.declared.tables.Boolean.{Boolean}
 use Rattle.cil_classes.specs.ClassRows.{AreClasses}
 use Rattle.cil_classes.specs.Row.{AreOrderlyRows}
@@ -98,6 +98,7 @@ tables_from-requires c =
       user_roles = given.user_roles.rising;
       role_types = given.role_types.rising;
       role_allows = given.role_allows.rising;
+      constraints = given.constraints.rising;
       each_class = rows_orderly c.args.lookup.now.namespaces.now (items_in c.args.instances.now) c.args.lookup.now.names.now c.requires.entries (is_in c.args.lookup.now.enabled.now) c.in_ok-numbering.numbering.sections c.in_ok-numbering.numbering.numbers.items c.in_ok-numbering.ensures.numbers (c.in_ok-numbering.ensures.apart c.requires.plain) c.args.permissions.now c.requires.permissions c.in_ok-judged.judged.first.rows.items c.in_ok-judged.ensures.0.0 (λ f e. c.in_ok-judged.ensures.1 f (inl e));
     }
 
@@ -112,7 +113,7 @@ returns-clause-tables c =
     let filled = c.in_ok-filled.ensures.0 in
     let given = filled.given in (
       subst (IsTable (items_in c.args.instances.now) (is_in c.args.lookup.now.enabled.now)) (sym c.tables_from.ensures)
-          (table_of (items_in c.args.instances.now) (is_in c.args.lookup.now.enabled.now) (names_of c.in_ok-numbering.numbering.sections) _ _ _ _ c.in_ok-judged.judged.first.rows.items c.in_ok-filled.filled.booleans.items _ _ _ _
+          (table_of (items_in c.args.instances.now) (is_in c.args.lookup.now.enabled.now) (names_of c.in_ok-numbering.numbering.sections) _ _ _ _ c.in_ok-judged.judged.first.rows.items c.in_ok-filled.filled.booleans.items _ _ _ _ _
           refl refl refl
           (names kinds.User _ (c.in_ok-numbering.ensures.numbers.lists kinds.User refl)) (names kinds.Role _ (c.in_ok-numbering.ensures.numbers.lists kinds.Role refl))
           (names kinds.Type_ _ (c.in_ok-numbering.ensures.numbers.lists kinds.Type_ refl))
@@ -120,6 +121,8 @@ returns-clause-tables c =
           (classes_given c.args.lookup.now.namespaces.now (items_in c.args.instances.now) c.args.lookup.now.names.now c.requires.entries (is_in c.args.lookup.now.enabled.now) c.in_ok-numbering.numbering.sections c.in_ok-numbering.numbering.numbers.items c.in_ok-numbering.ensures.numbers (c.in_ok-numbering.ensures.apart c.requires.plain) c.args.permissions.now c.requires.permissions c.in_ok-judged.judged.first.rows.items c.in_ok-judged.ensures.0.0)
           given.user_roles given.role_types given.role_allows
           (subst (λ (rows : List Class). AreRules (items_in c.args.instances.now) (is_in c.args.lookup.now.enabled.now) (names_of c.in_ok-numbering.numbering.sections kinds.Type_) rows (names_of c.in_ok-numbering.numbering.sections kinds.Boolean) c.in_ok-filled.filled.given.rules)
-          c.as_slice-rows.ensures.value given.rules)),
+          c.as_slice-rows.ensures.value given.rules)
+          (subst (λ (rows : List Class). AreConstraints (items_in c.args.instances.now) (is_in c.args.lookup.now.enabled.now) (names_of c.in_ok-numbering.numbering.sections) rows c.in_ok-filled.filled.given.constraints.items)
+          c.as_slice-rows.ensures.value given.constraints)),
       inr (c.in_ok-judged.ensures.1, inr (c.in_ok-filled.ensures.1, refl)),
     )

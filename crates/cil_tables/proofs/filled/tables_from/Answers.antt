@@ -16,6 +16,7 @@ invariant_of-result c = record {
   user_roles = c.requires.user_roles;
   role_types = c.requires.role_types;
   role_allows = c.requires.role_allows;
+  constraints = c.requires.constraints;
 }
 
 pub returns : goal.returns
@@ -30,4 +31,5 @@ returns c = λ i. record {
   role_types = c.args.filled.given.role_types;
   role_allows = c.args.filled.given.role_allows;
   rules = c.args.filled.given.rules;
+  constraints = c.args.filled.given.constraints.items;
 }

@@ -17,4 +17,5 @@ returns c = λ names known apart stand classes given.
       role_allows = c.in_ok-role_allows.ensures names known roles roles;
       type_aliases = c.in_ok-type_aliases.ensures xs names known (subst (HaveMembers k xs names kinds.Type_) (sym c.as_slice-types.ensures.value) stand.aliases);
       rules = c.in_ok-rules.ensures names known apart types classes given;
+      constraints = c.in_ok-constraints.ensures names known apart stand classes given;
     }

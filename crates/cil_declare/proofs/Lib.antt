@@ -1,0 +1,11 @@
+pub mod ContentLemmas
+pub mod DoneLemmas
+pub mod EntryLemmas
+pub mod FaultLemmas
+pub mod Lists
+pub mod NamedLemmas
+pub mod RowLemmas
+pub mod RunLemmas
+pub mod ScopeLemmas
+pub mod StatementLemmas
+pub mod WordlessLemmas

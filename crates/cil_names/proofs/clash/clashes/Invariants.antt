@@ -1,7 +1,0 @@
-use Rattle.std.specs.Prelude.{◌≡◌, take}
-use Rattle.std.specs.List.{flat_map}
-use Rattle.cil_names.specs.DeclareRuns.{run_faults}
-use Rattle.cil_names.proofs.clash.clashes.Given as goal
-
-abbrev pub invariant-loop-run : goal.invariant-loop-run
-invariant-loop-run l = l.faults.items ≡ flat_map (run_faults l.instances) (take l.run-index l.runs)

@@ -1,7 +1,0 @@
-use Rattle.std.proofs.Common.{◌≡◌, drop}
-use Rattle.std.specs.List.{list_any}
-use Rattle.cil_names.specs.DeclareRuns.{is_always}
-use Rattle.cil_names.proofs.gather.any_always.Given as goal
-
-abbrev pub invariant-loop-row : goal.invariant-loop-row
-invariant-loop-row l = list_any (is_always l.instances) l.rows ≡ list_any (is_always l.instances) (drop l.row-index l.rows)

@@ -1,5 +1,0 @@
-use Rattle.cil_names.specs.DeclareRows.{AreRowsUpTo}
-use Rattle.cil_names.proofs.row.rows_of.Given as goal
-
-abbrev pub invariant-loop-at : goal.invariant-loop-at
-invariant-loop-at l = AreRowsUpTo l.instances l.at l.rows.items
