@@ -36,6 +36,18 @@ KINDS = [b"type", b"type", b"type", b"role", b"user", b"class", b"class", b"name
 WRONG_ARGUMENTS = [Quoted(b"a"), Quoted(b""), b"all", b"self", b"1x", b"a..b", b".", [], [b"a"], [[b"a"], Quoted(b"b")]]
 NOWHERE = [b"nobody", b"k.a", b".k", b"l.l.a", b"a.k"]
 RULES = {b"roletype": (b"role", b"type"), b"userrole": (b"user", b"role"), b"roleallow": (b"role", b"role")}
+
+# The variables of constraints by the kinds of what they stand for, a word of each kind that most policies have, and
+# comparisons that are nearly right.
+VARIABLES = {b"user": b"u", b"role": b"r", b"type": b"t"}
+KNOWN = {b"user": [b".u"], b"role": [b".r", b"object_r"], b"type": [b".a", b".b"]}
+WRONG_COMPARISONS = [
+    [b"eq", b"u2", b"u1"], [b"eq", b"t1", b"t1"], [b"eq", b"t1", []], [b"eq", b"t1", [[b"a"]]], [b"eq", b"a", b"t1"],
+    [b"dom", b"r1", b"r2"], [b"incomp", b"r1", b"a"], [b"dom", b"l1", b"l2"], [b"eq", b"l1", b"l2"], [b"eq", b"t1", b"1x"],
+    [b"eq", b"r1", b"t2"], [b"eq", b"t1"], [b"eq", b"t1", [b"not", b"a"]], [b"eq", b"t1", b"t2", b"t2"],
+    [b"xor", [b"eq", b"u1", b"u2"], [b"eq", b"r1", b"r2"]], [], b"t1", [b"not"], [b"eq", b"u1", Quoted(b"a")], [b"eq", b"t1", b"all"],
+]
+
 WORDS = [*FLAT, *sorted(table.ACCEPTED.statements & table.BLOCK_ROWS.keys()), b"call", b"optional", b"filecon", *LATER, *UNKNOWN]
 
 MOST_MENDINGS = 12
@@ -97,6 +109,7 @@ class Draft:
     """A policy that is being made up. What is wrong is one of WRONG, or nothing."""
 
     NAMES, KINDS, WRONG, WORDS, MENDINGS = NAMES, KINDS, WRONG, WORDS, MOST_MENDINGS
+    CONSTRAINT_KINDS = [b"type", b"role", b"user", b"class"]
 
     def __init__(self, rng, language=table.ACCEPTED):
         self.rng, self.language, self.wrong = rng, language, None
@@ -348,9 +361,7 @@ class Draft:
 
     def permissions_on(self, spot, class_word):
         """A set of permissions for the class of a word, one of which tells which rule it is."""
-        is_parameter = (b"class", class_word) in spot.parameters
-        full_names = [path for path in self.permissions if is_parameter or path[-1] == class_word.split(b".")[-1]]
-        listed = list(self.permissions[self.rng.choice(full_names)]) if full_names else [b"read"]
+        listed = self.listed_on(spot, class_word)
         permissions = [self.rng.choice(listed) for _ in range(self.rng.choice([0, 0, 0, 0, 1, 2]))] if listed else []
         if b"p0" in listed and often(self.rng, 0.95):
             self.rules += 1
@@ -363,6 +374,12 @@ class Draft:
             made = self.set_on(listed, self.strange_permissions(spot))
             permissions = made if often(self.rng, 0.3) else [made, *permissions]
         return permissions
+
+    def listed_on(self, spot, class_word):
+        """The permissions of a class that a word may mean: a parameter may mean each."""
+        is_parameter = (b"class", class_word) in spot.parameters
+        full_names = [path for path in self.permissions if is_parameter or path[-1] == class_word.split(b".")[-1]]
+        return list(self.permissions[self.rng.choice(full_names)]) if full_names else [b"read"]
 
     def strange_permissions(self, _):
         """A permission for a body that its class may not have, or none."""
@@ -422,6 +439,90 @@ class Draft:
         ends = [*names, self.rng.choice([b"r", b".r", b"q", self.word(macro, b"role")])]
         self.rng.shuffle(ends)
         macro.body.append([b"roleallow", *ends[:2]])
+        for _ in range(self.rng.choice([1, 2])):
+            spot = self.spot(may_be_macro=often(self.rng, 0.3))
+            spot.body.append(self.call_of(spot, path, macro))
+
+    # ---- constraints
+
+    def add_constraints(self):
+        """Constraints on what rules give, and some users and roles for them to tell apart."""
+        top = self.spot(deepest=0)
+        for user in (b"u", b"v"):
+            self.declare(top, b"user", user)
+        roles = [b"." + b".".join(path) for path in self.declared[b"role"]] or [b".r"]
+        for role in self.rng.sample(roles, min(len(roles), 2)):
+            top.body += [[b"userrole", user, role] for user in (b".u", b".v") if often(self.rng, 0.7)]
+            top.body += [[b"roletype", role, name] for name in KNOWN[b"type"] if often(self.rng, 0.7)]
+        for _ in range(self.rng.choice([1, 2])):
+            ends = self.rng.choices(KNOWN[b"type"], k=2)
+            top.body.append([b"allow", *ends, [b".file", self.rng.sample(MARKS, self.rng.choice([1, 3, 8]))]])
+        for _ in range(self.rng.choice([1, 1, 2, 3, 4])):
+            spot = self.spot(may_be_macro=often(self.rng, 0.5))
+            made = [b"constrain", self.constrained(spot), self.constraint(spot)]
+            spot.body += [made, copy.deepcopy(made)] if often(self.rng, 0.05) else [made]
+        self.add_several(self.add_constraint_on_rule, 2)
+        if often(self.rng, 0.4):
+            self.add_constraint_by_call()
+
+    def add_constraint_on_rule(self):
+        """A constraint beside a rule, on what the rule gives, that asks for its source or its target."""
+        found = [
+            (body, each) for module in self.modules if module.is_open
+            for body, each in statements_of(module.statements)
+            if each[:1] == [b"allow"] and len(each) == 4 and body[:1] not in ([b"true"], [b"false"])
+        ]
+        if found:
+            body, (_, source, target, given) = self.rng.choice(found)
+            first, word = self.rng.choice([(b"t1", source), (b"t2", source if target == b"self" else target)])
+            asked = [self.rng.choice([b"eq", b"eq", b"neq"]), first, self.rng.choice([word, [word, b".a"]])]
+            body.append([b"constrain", copy.deepcopy(given), asked])
+
+    def constrained(self, spot):
+        """A class permission for a constraint."""
+        class_word = b".file" if often(self.rng, 0.4) else self.word(spot, b"class")
+        listed = self.listed_on(spot, class_word)
+        some = self.rng.sample(listed, min(len(listed), self.rng.choice([1, 2, 4, 8]))) + self.strange_permissions(spot)
+        return [class_word, self.rng.choice([some, some, some, [b"not", some], b"all", [b"all"]])]
+
+    def constraint(self, spot, depth=3, compare=None):
+        """What a constraint asks. Its comparisons may be made by another function than usual."""
+        if depth == 0 or often(self.rng, 0.45):
+            made = (compare or self.comparison)(spot)
+            return [made] if often(self.rng, 0.1) else made
+        operator = self.rng.choice([b"and", b"and", b"or", b"or", b"not"])
+        return [operator, *(self.constraint(spot, depth - 1, compare) for _ in range(1 if operator == b"not" else 2))]
+
+    def comparison(self, spot):
+        if self.goes_wrong("shapes", 0.1):
+            return copy.deepcopy(self.rng.choice(WRONG_COMPARISONS))
+        operator, kind = self.rng.choice([b"eq", b"neq"]), self.rng.choice([b"user", b"role", b"type", b"type"])
+        first, second = (VARIABLES[kind] + number for number in (b"1", b"2"))
+        if often(self.rng, 0.25):
+            return [operator, first, second]
+        words = [
+            self.rng.choice(KNOWN[kind]) if often(self.rng, 0.3) else self.word(spot, kind)
+            for _ in range(self.rng.choice([1, 1, 1, 2, 3]))
+        ]
+        named = words[0] if len(words) == 1 and often(self.rng, 0.6) else words
+        return [operator, self.rng.choice([first, second]), named]
+
+    def add_constraint_by_call(self):
+        """A macro with a constraint that has its parameters, and calls of it."""
+        kinds = self.rng.sample(self.CONSTRAINT_KINDS, self.rng.choice([1, 2, 2]))
+        parameters = [(kind, self.rng.choice([b"x", *self.NAMES[kind][:2]]) + b"_" * at) for at, kind in enumerate(kinds)]
+        macro = self.macro_in(self.spot(), parameters)
+        if not macro:
+            return
+        path = self.macros[-1][0]
+        names = dict(parameters)
+        some = self.rng.choice([b"all", self.rng.sample(MARKS, 4)])
+        given = names.get(b"classpermission") or [names.get(b"class", b".file"), some]
+        asked = [
+            [self.rng.choice([b"eq", b"neq"]), VARIABLES[kind] + self.rng.choice([b"1", b"2"]), self.rng.choice([name, [name]])]
+            for kind, name in parameters if kind in VARIABLES
+        ] or [self.constraint(macro, 1)]
+        macro.body.append([b"constrain", given, asked[0] if len(asked) == 1 else [b"or", *asked]])
         for _ in range(self.rng.choice([1, 2])):
             spot = self.spot(may_be_macro=often(self.rng, 0.3))
             spot.body.append(self.call_of(spot, path, macro))
@@ -547,6 +648,8 @@ class Draft:
         self.add_several(self.add_rule, int(16 * size))
         if often(self.rng, 0.5):
             self.add_changes()
+        if often(self.rng, 0.5):
+            self.add_constraints()
         self.add_last()
 
     def add_last(self):

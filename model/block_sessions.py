@@ -1,4 +1,5 @@
 """Random sessions over policies with blocks and macros, as parts that can be left out."""
+import constraints
 from block_policies import NAMES, Draft
 from faults import printed
 from pieces import bundle_of, import_bundle, install, often
@@ -11,6 +12,10 @@ MOST_ASKED = 12
 # So many queries are asked for changes of role, and so many are made for one rule.
 MOST_CHANGES = 6
 MOST_OF_A_RULE = 3
+
+# So many constraints of a policy are asked for, and so many pairs of contexts are tried for one of them.
+MOST_CONSTRAINTS = 5
+MOST_TRIED = 4
 
 
 def blocks(rng):
@@ -53,7 +58,9 @@ def queries(rng, policy):
     of_rules = [b"AV %s %s %s\n" % (*(any_context(rng, policy, each) for each in ends), name) for *ends, name in asked]
     of_changes = changes(rng, policy)
     of_changes = rng.sample(of_changes, min(len(of_changes), MOST_CHANGES))
-    return of_rules + [query(rng, policy, asked) for _ in range(rng.randrange(2, 6))] + of_changes
+    taken = of_constraints(rng, policy)
+    taken = rng.sample(taken, min(len(taken), MOST_CHANGES))
+    return of_rules + [query(rng, policy, asked) for _ in range(rng.randrange(2, 6))] + of_changes + taken
 
 
 def asked_of(policy):
@@ -140,11 +147,48 @@ def changing(rng, policy, source, target, liked):
 
 def valid_contexts(policy, type_name):
     """The valid contexts of a type, those of the role that has all types for one user alone."""
-    made = [
+    return contexts_by_pairs(policy, type_name) + contexts_of_object_role(policy, type_name)[:1]
+
+
+def contexts_by_pairs(policy, type_name):
+    return [
         (user, role, type_name) for user, role in sorted(policy.pairs[b"userrole"])
         if (role, type_name) in policy.pairs[b"roletype"] and role != OBJECT_ROLE
     ]
-    return made + [(user, OBJECT_ROLE, type_name) for user in sorted(policy.names[b"user"])[:1]]
+
+
+def contexts_of_object_role(policy, type_name):
+    return [(user, OBJECT_ROLE, type_name) for user in sorted(policy.names[b"user"])]
+
+
+# ---- constraints
+
+
+def of_constraints(rng, policy):
+    """Queries for what rules give and constraints are on: of each such pair one for which the constraint is true and one for
+    which it is false, where these are found, of any users and roles that have the types.
+    """
+    made = []
+    for each in rng.sample(policy.constraints, min(len(policy.constraints), MOST_CONSTRAINTS)):
+        rules = [rule for rule in policy.rules if rule.pairs & each.pairs and rule.sources]
+        for rule in rng.sample(rules, min(len(rules), MOST_OF_A_RULE)):
+            class_name, _ = rng.choice(sorted(rule.pairs & each.pairs))
+            found = {}
+            for _ in range(MOST_TRIED):
+                source = rng.choice(sorted(rule.sources))
+                targets = sorted(targets_of(rule, source))
+                ends = [some_context(rng, policy, of) for of in (source, rng.choice(targets))] if targets else [None]
+                if all(ends):
+                    is_true = constraints.holds(each.asked, constraints.ends(*ends), policy.sets)
+                    found[is_true] = b"AV %s %s %s\n" % (*map(b":".join, ends), class_name)
+            made += found.values()
+    return made
+
+
+def some_context(rng, policy, type_name):
+    """A valid context of a type, as its user, role and type, or nothing: more often of a role that has a few types."""
+    found = contexts_by_pairs(policy, type_name) * 2 + contexts_of_object_role(policy, type_name)
+    return rng.choice(found) if found else None
 
 
 # ---- over a million instances

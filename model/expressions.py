@@ -14,8 +14,12 @@ Looked = collections.namedtuple("Looked", "sign node takes_list")
 # A permission. In a list of a class permission it is one of the class in front of the list.
 Permission = collections.namedtuple("Permission", "node")
 
-# What is written with parts: a set or a condition by its operator, `all`, `true`, `false` or `self`; else a list.
+# What is written with parts: a set, a condition or a constraint by its operator, `all`, `true`, `false` or `self`; a
+# comparison of a constraint by what it compares; else a list.
 Form = collections.namedtuple("Form", "head parts", defaults=((),))
+
+# Of a constraint: `eq`, `neq` or one of levels, and two variables; or one, where it is compared with the words beside it.
+Comparison = collections.namedtuple("Comparison", "operator first second", defaults=(None,))
 
 OPERANDS = {b"not": 1, b"and": 2, b"or": 2, b"xor": 2}
 CONDITION_OPERANDS = {**OPERANDS, b"eq": 2, b"neq": 2}
@@ -216,14 +220,15 @@ class Expressions:
         if operator.kind != "word" or first.kind != "word":
             raise BadShape
         if operator.value in on_levels and both in LEVEL_PAIRS:
-            return Form("levels")
+            return Form(Comparison(operator.value, *both))
         if operator.value in LEFT_OUT_ON_ROLES and both == (b"r1", b"r2"):
             return self.refuse(operator)
         if operator.value not in COMPARED_SETS or first.value not in VARIABLES:
             raise BadShape
         if both in VARIABLE_PAIRS:
-            return Form("variables")
-        return Form("words", tuple(self.one_or_more(VARIABLES[first.value], second)))
+            return Form(Comparison(operator.value, *both))
+        words = self.one_or_more(VARIABLES[first.value], second)
+        return Form(Comparison(operator.value, first.value), tuple(words))
 
     def one_or_more(self, sign, node):
         """A word, or a list of words that is not empty."""

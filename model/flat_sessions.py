@@ -69,6 +69,26 @@ def rule(rng, names):
     return [keyword, dotted(rng, rng.choice(names.types)), target, [dotted(rng, name), permissions]]
 
 
+def constraint(rng, names, depth=2):
+    """What a constraint asks."""
+    if depth and often(rng, 0.5):
+        operator, count = rng.choice([(b"not", 1), (b"and", 2), (b"or", 2)])
+        return [operator, *(constraint(rng, names, depth - 1) for _ in range(count))]
+    known = {b"u": names.users, b"r": names.roles, b"t": names.types}
+    letter = rng.choice(list(known))
+    words = [dotted(rng, rng.choice(known[letter])) for _ in range(rng.choice([1, 1, 2, 3]))]
+    operands = rng.choice([[letter + b"1", letter + b"2"], [letter + rng.choice([b"1", b"2"]), words]])
+    return [rng.choice([b"eq", b"neq"]), *operands]
+
+
+def constrained(rng, names):
+    """A constraint on some permissions of a class."""
+    name = rng.choice(list(names.classes))
+    listed = names.permissions(name)
+    some = rng.sample(listed, min(len(listed), rng.choice([1, 2, 4])))
+    return [b"constrain", [dotted(rng, name), rng.choice([some, [b"not", some], b"all"])], constraint(rng, names)]
+
+
 def pairs(rng, keyword, first, second, chance=0.6):
     return [[keyword, dotted(rng, one), dotted(rng, other)] for one in first for other in second if often(rng, chance)]
 
@@ -81,6 +101,7 @@ def policy(rng, names):
     made += [[b"classcommon", *(dotted(rng, each) for each in shared)] for shared in names.shares.items()]
     made += pairs(rng, b"userrole", names.users, names.roles) + pairs(rng, b"roletype", names.roles, names.types)
     made += pairs(rng, b"roleallow", names.roles, names.roles, 0.3)
+    made += [constrained(rng, names) for _ in range(rng.choice([0, 0, 1, 2, 4]))]
     return made + [rule(rng, names) for _ in range(rng.choice([0, 1, 3, 8, 14]))]
 
 
@@ -98,6 +119,8 @@ def fault(rng, names):
         [keyword, rng.choice(names.types), b"self", [name, [b"read"]]],
         [b"roletype", name, name],
         [b"userrole", name, rng.choice(names.roles)],
+        [b"constrain", [class_name, []], [b"eq", rng.choice([b"u1", b"r2", b"t1"]), [name, rng.choice(names.types)]]],
+        [b"constrain", [name, [b"nope", b"read"]], constraint(rng, names)],
         [b"class", class_name, rng.sample(names.classes[class_name], len(names.classes[class_name]))],
         [b"class", class_name, [*names.classes[class_name], b"more"]],
         [b"class", b"wide", [b"p%d" % i for i in range(rng.choice([32, 33, 40]))]],

@@ -1,4 +1,4 @@
-"""Random policies with levels, constraints and what they rest on: names, arguments that are lists, and no meaning."""
+"""Random policies with levels, mlsconstrain and what they rest on: names, arguments that are lists, and no meaning."""
 import copy
 
 from pieces import often, set_of
@@ -22,7 +22,6 @@ WRONG_LISTS = [
     [], [b"s", b"c", b"c"], [[b"s"]], [b"range", b"c"], [b"range", b"c", [b"c"]], [b"not"], [b"and", b"c"], b"all", [b"all"],
     [b"s", b"all"], [[b"s"], [b"s"]], [b"lo", b"lo", b"lo"], [b"1x"], b"self", [b"c", b"or", b"c"],
 ]
-TYPES_COMPARED = [b"eq", b"neq"]
 LEVELS_COMPARED = [b"eq", b"neq", b"dom", b"domby", b"incomp"]
 PAIRS_OF_LEVELS = [(b"l1", b"l2"), (b"l1", b"h2"), (b"h1", b"l2"), (b"h1", b"h2"), (b"l1", b"h1"), (b"l2", b"h2")]
 
@@ -98,23 +97,16 @@ class LevelDraft(StageDraft):
 
     # ---- statements
 
-    def expression(self, spot, has_levels, depth=2):
-        if depth and often(self.rng, 0.35):
-            operator = self.rng.choice([b"and", b"or", b"not"])
-            return [operator, *(self.expression(spot, has_levels, depth - 1) for _ in range(1 + (operator != b"not")))]
-        if has_levels and often(self.rng, 0.4):
+    def comparison_of_levels(self, spot):
+        """A comparison of an mlsconstrain."""
+        if often(self.rng, 0.4):
             return [self.rng.choice(LEVELS_COMPARED), *self.rng.choice(PAIRS_OF_LEVELS)]
-        left, right, kind = self.rng.choice([
-            (b"u1", b"u2", b"user"), (b"r1", b"r2", b"role"), (b"t1", b"t2", b"type"), (b"t2", b"t1", b"type"),
-        ])
-        words = [self.word(spot, kind) for _ in range(self.rng.choice([1, 1, 2]))]
-        named = words[0] if len(words) == 1 and often(self.rng, 0.5) else words
-        return [self.rng.choice(TYPES_COMPARED), left, right if left < right and often(self.rng, 0.3) else named]
+        return self.comparison(spot)
 
     def add_level_statement(self):
         keyword = self.rng.choice([
             b"userlevel", b"userrange", b"userrange", b"rangetransition", b"sensitivitycategory", b"sensitivityorder",
-            b"categoryorder", b"sensitivityaliasactual", b"categoryaliasactual", b"constrain", b"mlsconstrain", b"mls",
+            b"categoryorder", b"sensitivityaliasactual", b"categoryaliasactual", b"mlsconstrain", b"mlsconstrain", b"mls",
         ])
         spot = self.spot(may_be_macro=keyword not in BLOCK_ROWS and often(self.rng, 0.7))
         said = {
@@ -128,8 +120,7 @@ class LevelDraft(StageDraft):
             b"categoryorder": lambda: [[self.category(spot) for _ in range(self.rng.choice([1, 2, 3]))]],
             b"sensitivityaliasactual": lambda: [self.word(spot, b"sensitivityalias"), self.word(spot, b"sensitivity")],
             b"categoryaliasactual": lambda: [self.word(spot, b"categoryalias"), self.category(spot)],
-            b"constrain": lambda: [self.class_permission(spot), self.expression(spot, False)],
-            b"mlsconstrain": lambda: [self.class_permission(spot), self.expression(spot, True)],
+            b"mlsconstrain": lambda: [self.constrained(spot), self.constraint(spot, 2, self.comparison_of_levels)],
             b"mls": lambda: [self.rng.choice([b"true", b"false"])],
         }[keyword]()
         spot.body.append([keyword, *said])

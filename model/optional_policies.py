@@ -1,5 +1,7 @@
 """Random policies with optionals, in texts, blocks, macros and other optionals."""
-from block_policies import BASE_TYPES, MACROS, MARKS, NOWHERE, RULES, SHARED, Draft, Spot, odd_contents, statements_of
+from block_policies import (
+    BASE_TYPES, MACROS, MARKS, NOWHERE, RULES, SHARED, VARIABLES, Draft, Spot, odd_contents, statements_of
+)
 from pieces import Quoted, often
 from table import ACCEPTED, BLOCK_ROWS, SET_ASIDE
 
@@ -84,6 +86,9 @@ class OptionalDraft(Draft):
             self.mark(spot, word)
         elif kind == b"role" and often(self.rng, 0.2):
             spot.body.append([b"roleallow", *self.rng.sample([word, b".r"], 2)])
+        elif often(self.rng, 0.2):
+            asked = [self.rng.choice([b"eq", b"neq"]), VARIABLES[kind] + self.rng.choice([b"1", b"2"]), word]
+            spot.body.append([b"constrain", [b".file", [self.rng.choice(MARKS)]], asked])
         elif kind == b"user" or (kind == b"role" and often(self.rng, 0.5)):
             spot.body.append([b"userrole", *((word, b".r") if kind == b"user" else (b".u", word))])
         else:
@@ -250,6 +255,8 @@ class OptionalDraft(Draft):
         self.add_several(self.add_rule, int(12 * size))
         if often(self.rng, 0.3):
             self.add_changes()
+        if often(self.rng, 0.4):
+            self.add_constraints()
         if self.goes_wrong("calls", 0.4):
             self.add_ring()
         self.wrap()

@@ -7,7 +7,10 @@ NAMES = [b"a", b"b", b"c", b"_", b"a-b", b"A", b"file", b"process", b"type", b"i
 PERMISSIONS = [b"read", b"open", b"write", b"Read", b"_x", b"a-", b"aa", b"transition", b"dyntransition"]
 LATER = sorted(table.LEFT_OUT | table.WHOLE.statements - table.ACCEPTED.statements)
 RULES = [b"allow", b"auditallow", b"dontaudit"]
-FLAT = [*RULES, b"class", b"classcommon", b"common", b"role", b"roleallow", b"roletype", b"type", b"user", b"userrole"]
+FLAT = [
+    *RULES, b"class", b"classcommon", b"common", b"constrain", b"role", b"roleallow", b"roletype", b"type", b"user",
+    b"userrole",
+]
 UNKNOWN = [b"foo", b"Type", b"types", b"allows", b"typ", b"inn", b"1type", b".type", b"-", b"attribute"]
 ODD = [
     b".a", b"a.b", b"..a", b"a.", b".", b"a..b", b".a.b", b"1a", b"-a", b"-", b"_", b"a'", b"a/b", b"a:b", b"a,b", b"*",
@@ -73,6 +76,17 @@ def set_of(rng, words, depth=5):
     return [operator] * bool(operator) + [set_of(rng, words, depth - 1) for _ in range(count)]
 
 
+def constraint(rng, depth, odd):
+    """What a constraint asks, often right."""
+    if depth == 0 or often(rng, 0.5):
+        operator = rng.choice([b"dom", b"xor", word(rng, odd)]) if often(rng, odd) else rng.choice([b"eq", b"neq"])
+        first, second = rng.choice([(b"u1", b"u2"), (b"r1", b"r2"), (b"t1", b"t2"), (b"t2", b"t1")])
+        words = [word(rng, odd) for _ in range(rng.choice([1, 2, 0 if often(rng, odd) else 3]))]
+        return [operator, first, rng.choice([words, words[0] if words else second, second if first < second else words])]
+    operator, count = rng.choice([(b"not", 1), (b"and", 2), (b"or", 2)])
+    return [operator, *(constraint(rng, depth - 1, odd) for _ in range(count + often(rng, odd / 2)))]
+
+
 def any_statement(rng, odd):
     keyword = rng.choice(FLAT)
     if keyword in (b"type", b"role", b"user"):
@@ -80,8 +94,10 @@ def any_statement(rng, odd):
     if keyword in (b"class", b"common"):
         count = rng.choice([0, 1, 2, 3, 3, 32, 33])
         return [keyword, word(rng, odd), [word(rng, odd) if count < 4 else b"p%d" % i for i in range(count)]]
-    if keyword not in RULES:
+    if keyword not in (*RULES, b"constrain"):
         return [keyword, word(rng, odd), word(rng, odd)]
+    if keyword == b"constrain":
+        return [keyword, [word(rng, odd), expression(rng, 3, odd)], constraint(rng, 3, odd)]
     target = rng.choice([b"self", b"notself", b"other", word(rng, odd), word(rng, odd), word(rng, odd)])
     permissions = [word(rng, odd), expression(rng, 3, odd)] if often(rng, 0.9) else word(rng, odd)
     return [keyword, word(rng, odd), target, permissions]

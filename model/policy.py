@@ -1,4 +1,5 @@
 """What a policy declares and allows."""
+import constraints
 from classes import Permissions, faults_of_classes
 from contents import Contents
 from faults import fault, printed, stop_at
@@ -49,6 +50,11 @@ class Policy:
         self.aliases = types.aliases()
         permissions = Permissions(names, self.enabled)
         self.rules = [rule_of(each, types, permissions) for each in self.enabled if each.statement.keyword in RULES]
+        self.sets = dict(zip(constraints.PARTS, (users, roles, types)))
+        self.constraints = [
+            constraints.constraint_of(each, permissions)
+            for each in self.enabled if each.statement.keyword == b"constrain"
+        ]
         stop_at(neverallowed(self.rules))
         self.defaults = {
             printed(path): ((b"true",),) == value for path, value in names.declared[b"boolean"].items()
@@ -66,6 +72,11 @@ class Policy:
 
     def type_of(self, context):
         """The type of a valid context, else nothing."""
+        parts = self.parts_of(context)
+        return parts and parts[2]
+
+    def parts_of(self, context):
+        """The user, the role and the type of a valid context, else nothing. An alias is the type for which it stands."""
         parts = context.split(b":")
         if len(parts) != 3:
             return None
@@ -73,10 +84,8 @@ class Policy:
         type_ = self.aliases.get(type_, type_)
         if user not in self.names[b"user"] or role not in self.names[b"role"] or type_ not in self.names[b"type"]:
             return None
-        if role == printed(OBJECT_ROLE):
-            return type_
         is_valid = (user, role) in self.pairs[b"userrole"] and (role, type_) in self.pairs[b"roletype"]
-        return type_ if is_valid else None
+        return (user, role, type_) if is_valid or role == printed(OBJECT_ROLE) else None
 
     def refusal(self, source, target, class_name):
         """Why a query is not answered, or nothing."""
@@ -97,11 +106,23 @@ class Policy:
         }
 
     def allowed(self, source, target, class_name, settings):
-        """The permissions that allow rules give for two contexts, without the changes of role that no roleallow has."""
+        """The permissions that allow rules give for two contexts, without those on which a constraint is false, and without
+        the changes of role that no roleallow has.
+        """
         allowed = self.covered(b"allow", source, target, class_name, settings)
+        allowed -= self.constrained(source, target, class_name)
         source_role, target_role = (context.split(b":")[1] for context in (source, target))
         may_change = source_role == target_role or (source_role, target_role) in self.pairs[b"roleallow"]
         return allowed if may_change or class_name != PROCESS else allowed.difference(CHANGES)
+
+    def constrained(self, source, target, class_name):
+        """The permissions of a class on which some constraint is false for two contexts."""
+        values = constraints.ends(self.parts_of(source), self.parts_of(target))
+        return {
+            permission
+            for each in self.constraints if not constraints.holds(each.asked, values, self.sets)
+            for of_class, permission in each.pairs if of_class == class_name
+        }
 
     def query(self, source, target, class_name, settings):
         refusal = self.refusal(source, target, class_name)

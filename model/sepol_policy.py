@@ -4,9 +4,10 @@
 usage: model/sepol_policy.py PROGRAM FOLDER [COUNT]      COUNT queries of each kind; 4000 where none is given
 
 FOLDER has the files *.cil of a policy that secilc compiles, each of at most 4,194,304 bytes; debian_policy.sh gets that of
-Debian. What the program does not support yet (LATER) is left out of it, and secilc compiles the same policy without its
-constraints and without levels. Queries are made of the policy: sources, targets and classes of its rules, with the role
-object_r, and changes from a context of a user to another, of the class process. All three lists of each reply are compared.
+Debian. What the program does not support yet (LATER) is left out of it, and secilc compiles the same policy with levels off. Each
+mlsconstrain that compares no levels is a constrain for both, and the others are left out for both. Queries are made of the
+policy: sources, targets and classes of its rules, with the role object_r, changes from a context of a user to another, of the class
+process, and such contexts and a class of a constraint. All three lists of each reply are compared.
 Status: 0, or 1 if a reply differs.
 
 It wants Debian's packages secilc, libsepol-dev and gcc.
@@ -23,8 +24,9 @@ sys.dont_write_bytecode = True
 
 import sepol
 
-CONSTRAINTS = b"constrain mlsconstrain".split()
-LATER = CONSTRAINTS + b"""
+# What makes a constraint one of levels, or one that the program refuses.
+OF_LEVELS = set(b"l1 l2 h1 h2 dom domby incomp".split())
+LATER = b"""
     mls sensitivity sensitivityalias sensitivityaliasactual sensitivityorder sensitivitycategory category categoryalias
     categoryaliasactual categoryorder categoryset userlevel userrange level levelrange rangetransition typepermissive
     """.split()
@@ -32,11 +34,17 @@ TOKEN = re.compile(rb';[^\n]*|"[^"\n]*"|[()]|[^\s()";]+|\s+')
 
 
 def without(text, words):
-    """A text without the lists that begin with some words, wherever they stand."""
+    """A text without the lists that begin with some words, wherever they stand, and without constraints that compare levels."""
     tokens, kept, at = TOKEN.findall(text), [], 0
     while at < len(tokens):
-        if tokens[at] == b"(" and first_word(tokens, at) in words:
+        first = first_word(tokens, at) if tokens[at] == b"(" else b""
+        if first in words:
             at = behind(tokens, at)
+        elif first in (b"constrain", b"mlsconstrain"):
+            end = behind(tokens, at)
+            if not OF_LEVELS & set(tokens[at:end]):
+                kept += [b"constrain" if each == b"mlsconstrain" else each for each in tokens[at:end]]
+            at = end
         else:
             kept.append(tokens[at])
             at += 1
@@ -68,6 +76,7 @@ class Queries:
         self.types = sorted(set(re.findall(r"\(type (\w+)\)", text)))
         known = set(self.types)
         self.rules = re.findall(r"\((?:allow|auditallow|dontaudit) (\w+) (\w+) \((\w+) ", text)
+        self.constrained = sorted(set(re.findall(r"\(constrain \((\w+) ", text)))
         self.users = sorted(set(re.findall(r"\(userrole (\w+) (\w+)\)", text)))
         roles = re.findall(r"\(roletype (\w+) (\w+)\)", text)
         self.contexts = [(u, r, t) for u, r in self.users for role, t in roles if role == r and t in known]
@@ -91,6 +100,20 @@ class Queries:
             ends = self.contexts, self.contexts
         return *(":".join(self.rng.choice(end)) for end in ends), "process"
 
+    def of_constraint(self):
+        """Two contexts of users, or what such a context may do to an object, and a class that some constraint is on."""
+        source, target = (self.rng.choice(self.contexts) for _ in range(2))
+        if self.rng.random() < 0.5:
+            target = (self.rng.choice(self.users)[0], "object_r", self.rng.choice(self.types))
+        rule = self.rng.choice(self.rules)
+        if self.rng.random() < 0.8 and self.of_type.get(rule[0]):
+            source = self.rng.choice(self.of_type[rule[0]])
+            kind = rule[1] if rule[1] in self.types else source[2] if rule[1] == "self" else target[2]
+            target = target[:2] + (kind,) if target[1] == "object_r" else self.rng.choice(self.of_type.get(kind, [target]))
+            if rule[2] in self.constrained:
+                return ":".join(source), ":".join(target), rule[2]
+        return ":".join(source), ":".join(target), self.rng.choice(self.constrained or ["process"])
+
 
 def of_program(program, texts, queries):
     """What the program replies to the queries, and the seconds of the session; its messages where it does not load the policy."""
@@ -113,11 +136,12 @@ def main():
     texts = [without(text, LATER) for text in files]
     made = Queries(b"\n".join(texts).decode("latin1"), 7)
     queries = [made.of_rule() for _ in range(count)] + [made.of_roles() for _ in range(count)]
+    queries += [made.of_constraint() for _ in range(count)]
     with tempfile.TemporaryDirectory() as name:
         room = pathlib.Path(name)
         names = [room / f"{number}.cil" for number in range(len(files))]
         for path, text in zip(names, files):
-            path.write_bytes(without(text, CONSTRAINTS))
+            path.write_bytes(without(text, []))
         policy = room / "policy"
         subprocess.run(["secilc", "-M", "false", "-o", policy, "-f", room / "contexts", *names], check=True)
         asked = "".join("{} {} {}\n".format(*each) for each in queries).encode()

@@ -770,6 +770,115 @@ ROLES = [
     ], refused(Fault(37, b"m", b"m)"))),
 ]
 
+TWO_USERS = (
+    b"(class file (open read))(class dir (open))(user u)(user v)(role r)(type a)(type b)(userrole u r)(userrole v r)"
+    b"(roletype r a)(roletype r b)(allow a b (file (open read)))(allow b a (file (open read)))(allow a b (dir (open)))"
+)
+ALL = b"OK open,read - open,read"
+
+
+def of_users(source, target, reply, ends=b"ab"):
+    return b"AV %s:r:%s %s:r:%s file" % (source, ends[:1], target, ends[1:]), reply
+
+
+CONSTRAINTS = [
+    ("one permission, one class", [TWO_USERS + b"(constrain (file (read)) (eq u1 u2))"], accepted(
+        of_users(b"u", b"u", ALL), of_users(b"u", b"v", OPEN), of_users(b"v", b"u", OPEN, b"ba"),
+        (b"AV u:r:a v:r:b dir", b"OK open - open"), (b"CHECK u:r:a v:r:b file read", b"OK no"),
+        (b"CHECK u:r:a v:r:b file open", b"OK yes"),
+    )),
+    ("source and target", [TWO_USERS + b"(constrain (file (read)) (eq u1 u))(constrain (file (open)) (neq t2 a))"], accepted(
+        of_users(b"u", b"v", ALL), of_users(b"v", b"u", OPEN), of_users(b"u", b"v", READ, b"ba"),
+        of_users(b"v", b"u", NONE, b"ba"),
+    )),
+    ("two of three have to be true", [
+        TWO_USERS + b"(constrain (file (read open)) (or (and (eq u1 u) (eq u2 u)) (or (and (eq u1 u) (eq t1 a)) "
+        b"(and (eq t1 (a)) (eq u2 (u))))))",
+    ], accepted(
+        of_users(b"u", b"u", ALL), of_users(b"u", b"v", ALL), of_users(b"v", b"u", ALL), of_users(b"v", b"v", NONE),
+        of_users(b"u", b"u", ALL, b"ba"), of_users(b"u", b"v", NONE, b"ba"), of_users(b"v", b"u", NONE, b"ba"),
+    )),
+    ("an alias of an alias, an attribute of an attribute", [
+        TWO_USERS + b"(typealias x)(typealias y)(typealiasactual x y)(typealiasactual y b)(typeattribute g)"
+        b"(typeattribute h)(typeattributeset g (not h))(typeattributeset h x)(constrain (file (read)) (eq t1 x))"
+        b"(constrain (file (open)) (neq t2 (g y)))",
+    ], accepted(
+        of_users(b"u", b"u", NONE), of_users(b"u", b"u", READ, b"ba"),
+    )),
+    ("all roles, object_r among them, and all but it", [
+        TWO_USERS + b"(roleattribute k)(roleattributeset k all)(roleattribute n)(roleattributeset n (not object_r))"
+        b"(constrain (file (read)) (eq r1 k))(constrain (file (open)) (eq r2 n))",
+    ], accepted(
+        of_users(b"u", b"v", ALL), (b"AV u:object_r:a v:r:b file", ALL),
+        (b"AV u:r:a v:object_r:b file", READ),
+    )),
+    ("an attribute of users, and one without members", [
+        TWO_USERS + b"(userattribute g)(userattributeset g (xor (u v) u))(userattribute n)"
+        b"(constrain (file (read)) (and (eq u1 g) (not (eq u1 n))))(constrain (file (open)) (neq u2 (n g)))",
+    ], accepted(
+        of_users(b"v", b"u", ALL), of_users(b"u", b"u", OPEN), of_users(b"u", b"v", NONE),
+        of_users(b"v", b"v", READ),
+    )),
+    ("a circle of a class map and a class permission", [
+        TWO_USERS + b"(classmap m (x y))(classpermission p)(classmapping m x p)(classpermissionset p (m (x)))"
+        b"(classpermissionset p (file (read)))(classmapping m y (dir (open)))(constrain (m (x)) (eq u1 u2))"
+        b"(constrain (m (y)) (neq u1 u2))",
+    ], accepted(
+        of_users(b"u", b"v", OPEN), of_users(b"u", b"u", ALL), (b"AV u:r:a v:r:b dir", b"OK open - open"),
+        (b"AV u:r:a u:r:b dir", b"OK - - open"),
+    )),
+    ("what is audited", [
+        TWO_USERS + b"(constrain (file (all)) (eq u1 u2))(auditallow a b (file (open)))(dontaudit a b (file (read)))",
+    ], accepted(of_users(b"u", b"v", b"OK - open open"))),
+    ("a rule in a branch", [
+        TWO_USERS + b"(boolean p false)(booleanif p (true (allow a a (file (open read)))))(constrain (file (read)) (eq u1 u2))",
+    ], accepted(
+        of_users(b"u", b"v", NONE, b"aa"), (b"SET p true", b"OK"), of_users(b"u", b"v", OPEN, b"aa"),
+        of_users(b"u", b"u", ALL, b"aa"),
+    )),
+    ("optionals that are in and out", [
+        TWO_USERS + b"(optional o (constrain (file (read)) (eq u1 u2)))(optional p (constrain (file (open)) (eq u1 u2))"
+        b"(optional i (constrain (file (open)) (eq t1 t2)))(constrain (file (open)) (eq t1 (a nobody))))",
+    ], accepted(of_users(b"u", b"v", OPEN), of_users(b"u", b"u", ALL))),
+    ("nearer names, and a class of the name in a block", [
+        TWO_USERS + b"(block k (type a)(class dir (open))(constrain (file (read)) (neq t1 a))"
+        b"(constrain (dir (open)) (neq t1 .a))(constrain (file (open)) (neq t1 .a)))",
+    ], accepted(of_users(b"u", b"u", READ), (b"AV u:r:a u:r:b dir", b"OK open - open"))),
+    ("arguments, one of them of the name of a parameter", [
+        TWO_USERS + b"(macro m ((type a)(type x)(classpermission b)) (constrain b (eq t1 (a x))))(typeattribute none)"
+        b"(call m (none b (file (read))))(call m (b a (file (open))))",
+    ], accepted(of_users(b"u", b"u", OPEN), of_users(b"u", b"u", ALL, b"ba"))),
+    ("each place of an inherited constraint", [
+        TWO_USERS + b"(block t (blockabstract t)(user w)(constrain (file (read)) (neq u2 w)))(block k (blockinherit t))"
+        b"(block n (blockinherit t))(userrole k.w r)(userrole n.w r)",
+    ], accepted(
+        of_users(b"u", b"k.w", OPEN), of_users(b"u", b"n.w", OPEN), of_users(b"k.w", b"u", ALL),
+    )),
+    ("with a change of role", [
+        CHANGES + b"(roleallow r q)(constrain (process (fork)) (eq r1 r2))(constrain (process (transition)) (eq r1 r))",
+    ], accepted(
+        of_roles(b"r", b"q", b"OK dyntransition,transition - dyntransition,fork,transition"),
+        of_roles(b"q", b"r", b"OK - - dyntransition,fork,transition"),
+        of_roles(b"q", b"q", b"OK dyntransition,fork - dyntransition,fork,transition"),
+    )),
+    ("neverallow does not ask for constraints", [
+        FIRST + b"(constrain (file (read)) (neq t1 a))(neverallow a b (file (read)))",
+    ], refused(Never(b"(neverallow", b"(allow", b"a:b:file:read"))),
+    ("the words of a constraint", [
+        FIRST + b"(constrain (file (read)) (or (eq u1 r) (or (neq r2 (r a)) (eq t1 u))))(constrain (dir (write)) (eq t1 a))"
+        b"(constrain (file (write)) (eq t1 a))(constrain nobody (eq r1 object_r))",
+    ], refused(
+        Fault(41, b"r", b"r) (or (neq"), Fault(41, b"a", b"a)) (eq"), Fault(41, b"u", b"u))))"), Fault(41, b"dir", b"dir"),
+        Fault(41, b"write", b"write)) (eq t1 a))(constrain n"), Fault(41, b"nobody"),
+    )),
+    ("a place of no constraint", [FIRST + b"(boolean p true)(booleanif p (true (constrain (file (read)) (eq t1 a))))"], refused(
+        Fault(24, b"constrain", b"(constrain"),
+    )),
+    ("no constraint by a call in a branch", [
+        FIRST + b"(boolean p true)(macro m () (constrain (file (read)) (eq t1 a)))(booleanif p (false (call m)))",
+    ], refused(Fault(37, b"m", b"m)))"))),
+]
+
 # The faults of names, shapes and arguments of statements that have no meaning here yet.
 LATER = [
     ("a list and none", [b"(sensitivity s)(level l (s))(level l (s ()))"], refused(
@@ -796,7 +905,8 @@ LATER = [
 STAGES = [
     (["sets"], SETS), (["maps"], MAPS), (["maps"], ARGUMENTS), (["maps", "audit"], AUDIT),
     (["sets", "maps", "booleans"], BOOLEANS), (["sets", "maps", "transitions"], TRANSITIONS),
-    (["sets", "maps", "audit", "booleans", "roles"], ROLES), (None, LATER),
+    (["sets", "maps", "audit", "booleans", "roles"], ROLES),
+    (["sets", "maps", "audit", "booleans", "roles", "constraints"], CONSTRAINTS), (None, LATER),
 ]
 LONG = [
     (["sets"], [

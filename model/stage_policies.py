@@ -1,8 +1,8 @@
-"""Random policies with what stages add: sets, class maps, audit rules, booleans, changes of role."""
+"""Random policies with what stages add: sets, class maps, audit rules, booleans, changes of role, constraints."""
 import copy
 
 import block_policies
-from block_policies import BASE_TYPES, MARKS, RULES, SHARED, Spot, statements_of
+from block_policies import BASE_TYPES, KNOWN, MARKS, RULES, SHARED, VARIABLES, Spot, statements_of
 from optional_policies import OptionalDraft, OptionalSpot
 from pieces import Quoted, often, set_of
 from policy import PROCESS
@@ -76,6 +76,9 @@ class StageDraft(OptionalDraft):
         self.KINDS = [*block_policies.KINDS, *(each for each in sorted(
             {b"typealias", b"classmap", b"classpermission", b"boolean", b"bool"} & language.kinds
         ) for _ in range(2))]
+        self.CONSTRAINT_KINDS = [
+            *block_policies.Draft.CONSTRAINT_KINDS, *sorted({b"classpermission"} & language.kinds) * 2
+        ]
         self.declaring = [each for each in NAMES if self.has(each) and each not in block_policies.NAMES]
         self.kinds_at, self.values = {}, {}
         self.branches, self.quiet_macros, self.ordered = [], [], []
@@ -394,6 +397,28 @@ class StageDraft(OptionalDraft):
         permission = self.rng.choice(list(self.maps.get((*spot.space, b"m")) or [b"w0"]))
         spot.body += [[b"classmapping", b"m", permission, given], [b"allow", b".a", b".b", [b"m", [permission]]]]
 
+    # ---- constraints
+
+    def add_constraints(self):
+        super().add_constraints()
+        if self.has(b"typeattribute"):
+            self.add_several(self.add_constraint_of_many, 2)
+
+    def add_constraint_of_many(self):
+        """A constraint that asks for an attribute of types, roles or users that most policies have."""
+        spot = self.spot(deepest=1)
+        attribute = self.rng.choice(list(SETTING))
+        setting, kind = SETTING[attribute]
+        name, first = self.rng.choice(NAMES[attribute]), VARIABLES[kind] + self.rng.choice([b"1", b"2"])
+        self.declare(spot, attribute, name)
+        words = [self.rng.choice([*KNOWN[kind], OptionalDraft.word(self, spot, kind)]) for _ in range(2)]
+        spot.body.append([setting, name, self.rng.choice([words, words[:1], [b"not", words], [b"not", words[0]]])])
+        asked = [self.rng.choice([b"eq", b"neq"]), first, self.rng.choice([name, [name], [name, words[0]]])]
+        spot.body.append([b"constrain", [b".file", self.rng.choice([b"all", self.rng.sample(MARKS, 6)])], asked])
+
+    def constrained(self, spot):
+        return self.class_permission(spot) if often(self.rng, 0.5) else super().constrained(spot)
+
     def add_forbidden(self):
         """A neverallow that is like an allow rule, or nearly."""
         found = [
@@ -704,6 +729,8 @@ class StageDraft(OptionalDraft):
         self.add_several(self.add_rule, int(18 * size))
         if self.has(b"roleallow") and often(rng, 0.8):
             self.add_changes()
+        if self.has(b"constrain") and often(rng, 0.6):
+            self.add_constraints()
         if self.has(b"typetransition"):
             self.add_several(self.add_transition, 3)
         if self.has(b"neverallow") and (often(rng, 0.5) or self.wrong == "neverallows"):

@@ -1,6 +1,6 @@
 """Random sessions over policies with what can be accepted beside today's language, as parts that can be left out."""
 import block_sessions
-from block_sessions import any_context, changes, is_process, valid_contexts
+from block_sessions import any_context, changes, is_process, of_constraints, valid_contexts
 from faults import printed
 from instances import words_in
 from level_policies import LevelDraft
@@ -33,7 +33,7 @@ def stages(rng, language):
 
 
 def levels(rng, language):
-    """The same with levels and constraints, whose meaning is still to come: refused, unless --whole."""
+    """The same with levels and mlsconstrain, whose meaning is still to come: refused."""
     return block_sessions.loads(rng, LevelDraft(rng, language), asked, 0.35)
 
 
@@ -47,7 +47,8 @@ def asked(rng, policy):
         queries += [each for each in some(rng, made) if is_near(policy, each)][:4]
     queries += by_aliases(rng, policy)
     changed = some(rng, changes(rng, policy, changes_out(policy)))
-    queries += changed
+    taken = some(rng, of_constraints(rng, policy))
+    queries += changed + taken
     turned = sorted(policy.defaults)
     conditional = of_rules(rng, policy, is_conditional=True)
     for _ in range(rng.choice([1, 2, 3]) if turned or often(rng, 0.1) else 0):
@@ -55,7 +56,8 @@ def asked(rng, policy):
         queries.append(b"SET %s %s\n" % (name, rng.choice([b"true", b"false"])))
         queries += rng.sample(conditional, min(len(conditional), 8))
     queries += by_conditions(rng, policy)
-    for each in rng.sample(queries, min(len(queries), 5)) + rng.sample(changed, min(len(changed), 2)):
+    checked = [queries, 5], [changed, 2], [taken, 2]
+    for each in [query for made, most in checked for query in rng.sample(made, min(len(made), most))]:
         if each.startswith(b"AV "):
             queries.append(check_of(rng, policy, each))
     return queries + LINES
@@ -134,7 +136,8 @@ def check_of(rng, policy, query):
     reply = policy.query(source, target, class_name, policy.defaults)
     allowed = reply.split(b" ")[1].split(b",") if reply.startswith(b"OK ") and reply[3:4] != b"-" else listed
     changing = [each for each in CHANGES if each in listed and is_process(class_name)] or allowed
-    permission = rng.choice(rng.choice([allowed, changing, listed, changing, [b"nope", b"-"]]))
+    constrained = sorted(policy.constrained(source, target, class_name)) if reply.startswith(b"OK ") else []
+    permission = rng.choice(rng.choice([allowed, changing, listed, changing, constrained or allowed, [b"nope", b"-"]]))
     return b"CHECK %s %s %s %s\n" % (source, target, class_name, permission)
 
 

@@ -163,10 +163,11 @@ STAGES = {
     "booleans": b"boolean booleanif neverallow".split(),
     "transitions": b"roletransition typetransition typechange typemember".split(),
     "roles": b"roleallow".split(),
+    "constraints": b"constrain".split(),
 }
 
 # The stages that the program accepts today. Whoever brings one there enters it here.
-TODAY = "sets", "transitions", "maps", "audit", "booleans", "roles"
+TODAY = "sets", "transitions", "maps", "audit", "booleans", "roles", "constraints"
 
 
 def accepting(stages):
