@@ -202,7 +202,7 @@ def parameter_copies(size):
 
 
 def constraints(size):
-    """Constraints of one word. They are not supported yet (22), and are read as texts alone."""
+    """Constraints whose expression is a word alone (23)."""
     return filled(size, "", "(constrain a(b))", "")
 
 
@@ -632,6 +632,28 @@ def to_sets(size):
     return with_sets(size, "(allow a0 s{:x}(c(e)))".format)
 
 
+# ---- constraints
+
+def constraint_sets(size):
+    """A size is a number of constraints: the set of each has all types."""
+    return [types() + ALL_TYPES + "(class c(e))", *parted("(constrain(c(e))(or(eq t1 z)(eq r1 object_r)))" for _ in range(size))]
+
+
+def constraint_copies(size):
+    """A constraint of very many comparisons on a class map that has a permission of each of a hundred classes."""
+    def joined(count):
+        return "(eq t1 t2)" if count == 1 else f"(or{joined(count // 2)}{joined(count - count // 2)})"
+    classes = "".join(f"(class c{n:x}(e))(classmapping m x(c{n:x}(e)))" for n in range(100))
+    return [f"(classmap m(x)){classes}(constrain(m(x)){joined(max(1, size // 14))})"]
+
+
+def many_constraints(size):
+    """Constraints on one permission, which a rule allows: each that the type of the source is another one, and none is false."""
+    def each(n):
+        return f"(type a{n + 1:x})(constrain(c(e))(neq t1 a{n + 1:x}))"
+    return ["(user u)(class c(e))(type a0)(allow a0 a0(c(e)))" + "".join(pieces(size, each))]
+
+
 # ---- class maps and class permissions
 
 def on_map(size, rule):
@@ -993,6 +1015,8 @@ FORMS = {
     "full-links": (full_links, 100, load), "full-rules": (full_rules, 1_000, load),
     "unlike-rules": (unlike_rules, 1_000, load),
     "from-sets": (from_sets, LONGEST, sources), "to-sets": (to_sets, LONGEST, targets),
+    "constraint-sets": (constraint_sets, 20_000, load), "constraint-copies": (constraint_copies, 400_000, load),
+    "many-constraints": (many_constraints, LONGEST, queries),
     "map-words": (map_words, 100_000, load), "map-lists": (map_lists, 100_000, load),
     "permission-ring": (permission_ring, 100_000, load), "map-ring": (map_ring, 100_000, load),
     "wide-permissions": (wide_permissions, 100_000, load), "wide-rules": (wide_rules, 100_000, load),
