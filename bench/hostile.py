@@ -1016,7 +1016,7 @@ FORMS = {
     "unlike-rules": (unlike_rules, 1_000, load),
     "from-sets": (from_sets, LONGEST, sources), "to-sets": (to_sets, LONGEST, targets),
     "constraint-sets": (constraint_sets, 20_000, load), "constraint-copies": (constraint_copies, 400_000, load),
-    "many-constraints": (many_constraints, LONGEST, queries),
+    "many-constraints": (many_constraints, 2_600_000, queries),
     "map-words": (map_words, 100_000, load), "map-lists": (map_lists, 100_000, load),
     "permission-ring": (permission_ring, 100_000, load), "map-ring": (map_ring, 100_000, load),
     "wide-permissions": (wide_permissions, 100_000, load), "wide-rules": (wide_rules, 100_000, load),
