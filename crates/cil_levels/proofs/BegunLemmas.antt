@@ -8,7 +8,7 @@ use Rattle.cil_mls.specs.declared.expression.Held.TheVariants.{Nothing}
 use Rattle.cil_mls.specs.Values.{IsFew}
 use Rattle.cil_levels.specs.Begun.{IsBegun}
 
-before_or_at : (j at : ℕ) → j < at + 1 → (j < at) ⊎ (j ≡ at)
+pub before_or_at : (j at : ℕ) → j < at + 1 → (j < at) ⊎ (j ≡ at)
 before_or_at j at l = grind arith
 
 pub at_front : {X : Type 0} (xs : List X) (x d : X) (e : ℕ) → e < length xs → get_or (xs ++ x ∷ []) e d ≡ get_or xs e d

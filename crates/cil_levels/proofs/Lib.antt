@@ -8,4 +8,5 @@ pub mod PermitLemmas
 pub mod PlaceLemmas
 pub mod RankLemmas
 pub mod SecondLemmas
+pub mod SensitivityLemmas
 pub mod TermLemmas

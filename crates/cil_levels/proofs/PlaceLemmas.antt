@@ -39,6 +39,10 @@ no_more_than numbers n once below =
     let (p, within, at) = get_at numbers x c in
     subst (λ z. z < n) (sym (same_number q x t)) (below p x at))
 
+-- the one number of a row of one
+pub only_one : (m n : ℕ) → Contains (m ∷ []) n → m ≡ n
+only_one m n c = elim (contains_cases n m [] c) [ inl e ↦ e | inr none ↦ absurd (contains_none n none) ]
+
 pub same_category : (a b : ℕ) → Category a ≡ Category b → a ≡ b
 same_category a b e = cc
 
@@ -100,10 +104,6 @@ module _ (k : Known) (xs : List Item) (sections : Kind → List (List ℕ)) (kin
         let named : IsNamed k.lookup.namespaces.now xs k.lookup.names.now (enabled_in k) w d =
         subst (IsAnswer k.lookup.namespaces.now xs k.lookup.names.now (enabled_in k) w) means (law k.lookup.namespaces.now xs k.lookup.names.now (enabled_in k) w known.namespaces known.entries) in
         in_range k.lookup.names.now d named.entry named.at
-
-    -- the one number of a row of one
-    only_one : (m n : ℕ) → Contains (m ∷ []) n → m ≡ n
-    only_one m n c = elim (contains_cases n m [] c) [ inl e ↦ e | inr none ↦ absurd (contains_none n none) ]
 
     there_holds : (c n : ℕ) → slice_get numbers c ≡ Some n → (d : ℕ) (h : Held) → Contains (get_or sets d []) n → IsBegun k.lookup.names.now sets places d h → h ≡ Category c
     there_holds c n at d Nothing h is = absurd (contains_none n (subst (λ l. Contains l n) is.1 h))

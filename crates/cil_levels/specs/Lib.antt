@@ -5,4 +5,5 @@ pub mod Made
 pub mod Permits
 pub mod Permitted
 pub mod Places
+pub mod Sensitivities
 pub mod Values

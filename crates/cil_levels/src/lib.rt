@@ -4,9 +4,11 @@
 //! Start at `category_values`, in `values.rt`: what each declared name holds, a category, an alias or a set of categories.
 //! `specs/Values.antt` says what that is, by equations for all sets at once, `specs/Places.antt` which category a word stands for, and
 //! `specs/Held.antt` what is answered. `permitted`, in `permits.rt`, says which categories may go with each sensitivity
-//! (`specs/Permitted.antt`). The parts: `inverse.rt` finds places in an order, `beginning.rt` what names hold at first, `definitions.rt`
-//! the declarations of sets in an order in which each set is made before it is named, `expressions.rt` what a statement says, and
-//! `making.rt` makes the sets. `laws.rt` says that the equations have one solution where no set depends on itself, and what names hold.
+//! (`specs/Permitted.antt`), and `sensitivity_places`, in `sensitivities.rt`, for which sensitivity each declared name stands
+//! (`specs/Sensitivities.antt`). The parts: `inverse.rt` finds places in an order, `beginning.rt` what names hold at first,
+//! `definitions.rt` the declarations of sets in an order in which each set is made before it is named, `expressions.rt` what a
+//! statement says, and `making.rt` makes the sets. `laws.rt` says that the equations have one solution where no set depends on itself,
+//! and what names hold.
 //!
 //! Not done here: the orders, which are those of cil_mls, and levels. Only tests call this crate yet.
 #![tactic(auto)]
@@ -18,7 +20,9 @@ mod inverse;
 pub mod laws;
 mod making;
 mod permits;
+mod sensitivities;
 mod values;
 
 pub use permits::permitted;
+pub use sensitivities::sensitivity_places;
 pub use values::category_values;
