@@ -1,0 +1,16 @@
+//! The levels and ranges that statements say, and what is wrong with them. The CIL Reference Guide has both in "Multi-Level Security
+//! Labeling Statements", as "level", "levelrange" and "userrange".
+#![tactic(auto)]
+
+mod check;
+mod level;
+mod own;
+mod range;
+mod scale;
+mod walk;
+
+pub use check::push_level_faults;
+pub use level::{level_of, said_level};
+pub use own::Judge;
+pub use range::{range_of, said_range};
+pub use scale::{Named, Ranged, Scale};
