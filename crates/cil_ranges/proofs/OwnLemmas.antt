@@ -11,7 +11,7 @@ use Rattle.cil_syntax.specs.declared.term.Word.{Word}
 use Rattle.cil_syntax.specs.Said.{all_said, said_of}
 use Rattle.cil_syntax.specs.Scopes.{ScopedWord}
 use Rattle.cil_syntax.specs.Terms.{Term, Leaf, Name, Form, Terms, nil, cons}
-use Rattle.cil_macros.specs.Item.{all_replaced, all_words_in}
+use Rattle.cil_macros.specs.Item.{all_replaced, all_words_in, replaced, words_in}
 use Rattle.cil_macros.specs.ListTerms.{AreAlike}
 use Rattle.cil_known.specs.declared.known.Known.{Known}
 use Rattle.cil_known.specs.Known.{enabled_in, meant_in}
@@ -30,7 +30,21 @@ use Rattle.cil_ranges.specs.declared.scale.Scale.{Scale}
 use Rattle.cil_ranges.specs.LevelFaults.{IsBackwards, IsTurned, IsUnpermitted}
 use Rattle.cil_ranges.specs.Levels.{Ground, IsLevel, IsSensitivityAt, IsNamedLevel, IsWrittenLevel, SaysLevel, SaysRange, in_behind}
 use Rattle.cil_ranges.specs.Reading.{AreRead, BeginsWithWord, HasLevels, IsSpan, Judges, LevelIsPermitted, Measures, SaysNoLevel, meant}
-use Rattle.cil_ranges.proofs.ReadLemmas.{none_read}
+use Rattle.cil_ranges.proofs.AlikeLemmas.{cons_alike}
+
+-- ---- tests
+
+pub from_not : {A B P Q : Type 0} → (b : Bool) → MatchBool b P Q → (Q → A) → (P → B) → MatchBool (not b) A B
+from_not true m f g = g m
+from_not false m f g = f m
+
+pub match_test : {A B : Type 0} → (b : Bool) → (b ≡ true → A) → (b ≡ false → B) → MatchBool b A B
+match_test true f g = f refl
+match_test false f g = g refl
+
+pub match_not : {A B : Type 0} → (b : Bool) → (b ≡ false → A) → (b ≡ true → B) → MatchBool (not b) A B
+match_not true f g = g refl
+match_not false f g = f refl
 
 -- ---- sets that have all of others, or lack one
 
@@ -194,3 +208,52 @@ module _ (k : Known) (by : Scale) (g : Ground) (measures : Measures k by g) (us 
       let a = one_category k by g measures h.from p.first h.first (subst (λ w. IsCategoryAt g.items (enabled_in k) g.categories w p.first) from s.is_first) h.is_first in
       let b = one_category k by g measures h.to p.last h.last (subst (λ w. IsCategoryAt g.items (enabled_in k) g.categories w p.last) to s.is_last) h.is_last in
       let f = h.falls in omega (arith, a, b, l, f)
+
+-- ---- two words
+
+second_means : (k : Known) (w x : ScopedWord) (rest : Terms ScopedWord) (words more : List (Option ℕ)) → words ≡ map (meant_in k) (all_words_in (cons (Leaf w) (cons (Leaf x) rest))) ++ more
+    → (get_or words 0 None ≡ meant_in k w) × (get_or words 1 None ≡ meant_in k x)
+unfolding words_in all_words_in
+second_means k w x rest words more e = (ap (λ r. get_or r 0 None) e, ap (λ r. get_or r 1 None) e)
+
+some_read : (f : Word → ScopedWord) (m : ℕ) (terms : List rust.Term) → 0 < length terms → AreAlike (all_replaced (λ at. at) f (all_said m terms)) nil → ⊥
+unfolding all_replaced
+some_read f m [] l same = omega (arith, l)
+some_read f m (t ∷ ts) l same =
+    let (u, vs, says, one, rest) = cons_alike (replaced (λ at. at) f (said_of m t)) (all_replaced (λ at. at) f (all_said m ts)) nil same in
+    let e : nil ≡ cons u vs = says in cc
+
+module _ (k : Known) (by : Scale) (g : Ground) (measures : Measures k by g) (us : Terms ScopedWord) where
+  pub no_front : ((w : ScopedWord) (rest : Terms ScopedWord) → us ≡ cons (Leaf w) rest → ⊥) → (p : Span) → IsSpan k g us p → ⊥
+  no_front none p h = none h.from (cons (Leaf h.to) nil) h.says
+
+  pub no_second : (w : ScopedWord) (vs : Terms ScopedWord) → us ≡ cons (Leaf w) vs → ((x : ScopedWord) (rest : Terms ScopedWord) → vs ≡ cons (Leaf x) rest → ⊥) → (p : Span) → IsSpan k g us p → ⊥
+  no_second w vs says none p h = let e : cons (Leaf w) vs ≡ cons (Leaf h.from) (cons (Leaf h.to) nil) = sym says ∙ h.says in none h.to nil cc
+
+  module _ (w x : ScopedWord) (vs : Terms ScopedWord) (says : us ≡ cons (Leaf w) (cons (Leaf x) vs)) where
+    same_words : (p : Span) (h : IsSpan k g us p) → (h.from ≡ w) × (h.to ≡ x) × (vs ≡ nil)
+    same_words p h = let e : cons (Leaf w) (cons (Leaf x) vs) ≡ cons (Leaf h.from) (cons (Leaf h.to) nil) = sym says ∙ h.says in (cc, cc, cc)
+
+    pub more_than_two : (f : Word → ScopedWord) (m : ℕ) (rest : List rust.Term) → AreAlike (all_replaced (λ at. at) f (all_said m rest)) vs → 0 < length rest → (p : Span) → IsSpan k g us p → ⊥
+    more_than_two f m rest same some p h = some_read f m rest some (subst (λ z. AreAlike (all_replaced (λ at. at) f (all_said m rest)) z) (same_words p h).2 same)
+
+    module _ (words more : List (Option ℕ)) (row : words ≡ map (meant_in k) (all_words_in us) ++ more) where
+      means : (get_or words 0 None ≡ meant_in k w) × (get_or words 1 None ≡ meant_in k x)
+      means = second_means k w x vs words more (row ∙ ap (λ ts. map (meant_in k) (all_words_in ts) ++ more) says)
+
+      pub no_first : ((c : ℕ) → meant_held by.categories.held.now (get_or words 0 None) ≡ Category c → ⊥) → (p : Span) → IsSpan k g us p → ⊥
+      no_first none p h =
+          none p.first (ap (meant_held by.categories.held.now) (means.0 ∙ ap (meant_in k) (sym (same_words p h).0)) ∙ (measures.categories h.from p.first).0 h.is_first)
+
+      pub no_last : ((c : ℕ) → meant_held by.categories.held.now (get_or words 1 None) ≡ Category c → ⊥) → (p : Span) → IsSpan k g us p → ⊥
+      no_last none p h =
+          none p.last (ap (meant_held by.categories.held.now) (means.1 ∙ ap (meant_in k) (sym (same_words p h).1)) ∙ (measures.categories h.to p.last).0 h.is_last)
+
+      pub is_span : (p : Span) → vs ≡ nil → meant_held by.categories.held.now (get_or words 0 None) ≡ Category p.first → meant_held by.categories.held.now (get_or words 1 None) ≡ Category p.last → IsSpan k g us p
+      is_span p none first last = record {
+        from = w;
+        to = x;
+        says = says ∙ ap (λ z. cons (Leaf w) (cons (Leaf x) z)) none;
+        is_first = (measures.categories w p.first).1 (ap (meant_held by.categories.held.now) (sym means.0) ∙ first);
+        is_last = (measures.categories x p.last).1 (ap (meant_held by.categories.held.now) (sym means.1) ∙ last);
+      }

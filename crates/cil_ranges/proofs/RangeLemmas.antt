@@ -1,6 +1,6 @@
 -- How ranges are read: two levels, one behind the other.
 use Rattle.std.specs.Prelude.{MatchOption, Option, None, Some, map, length}
-use Rattle.std.proofs.Common.{◌≡◌, ◌⊎◌, ℕ, ◌<◌, List, [], ◌∷◌, ◌++◌, get_or, refl, sym, ◌∙◌, ap, subst, inl, inr, arith}
+use Rattle.std.proofs.Common.{◌≡◌, ℕ, ◌≤◌, List, [], ◌∷◌, ◌++◌, get_or, refl, sym, ◌∙◌, ap, subst, inl, inr, arith}
 use Rattle.cil_syntax.specs.declared.term.Term as rust
 use Rattle.cil_syntax.specs.declared.term.Word.{Word}
 use Rattle.cil_syntax.specs.Said.{all_said, said_of}
@@ -16,7 +16,7 @@ use Rattle.cil_mls.proofs.ValueLemmas.{two_of}
 use Rattle.cil_ranges.specs.Levels.{Ground, IsLevel, SaysRange}
 use Rattle.cil_ranges.specs.Reading.{AreRead, IsRead}
 use Rattle.cil_ranges.proofs.AlikeLemmas.{cons_alike, none_alike}
-use Rattle.cil_ranges.proofs.ReadLemmas.{words_apart}
+use Rattle.cil_ranges.proofs.ReadLemmas.{first_read, words_apart}
 
 -- terms that say two terms are two
 two_terms : (f : Word → ScopedWord) (m : ℕ) (terms : List rust.Term) (a b : Term ScopedWord) → AreAlike (all_replaced (λ at. at) f (all_said m terms)) (cons a (cons b nil)) → length terms ≡ 2
@@ -35,6 +35,16 @@ two_terms f m (s ∷ (t ∷ (z ∷ zs))) a b same =
 module _ (k : Known) (g : Ground) (f : Word → ScopedWord) (m : ℕ) (terms : List rust.Term) (us : Terms ScopedWord) (words more : List (Option ℕ)) (read : AreRead k f m terms us words more) where
   pub not_two_said : (length terms ≡ 2 → ⊥) → (r : Range) → SaysRange (enabled_in k) g us r → ⊥
   not_two_said isnt r h = isnt (two_terms f m terms h.low h.high (subst (AreAlike (all_replaced (λ at. at) f (all_said m terms))) h.says read.alike))
+
+  -- the first of them has no level
+  pub no_low : (a : rust.Term) → 1 ≤ length terms → a ≡ get_or terms 0 a
+      → ((u : Term ScopedWord) (rest : List (Option ℕ)) → IsRead k f m a u words rest → (l : Level) → IsLevel (enabled_in k) g u l → ⊥) → (r : Range) → SaysRange (enabled_in k) g us r → ⊥
+  no_low a some is_a none r h =
+      let (u, vs, says, alike, rest) = first_read f m terms a some is_a us read.alike in
+      let apart = words_apart k u vs words more (read.row ∙ ap (λ ts. map (meant_in k) (all_words_in ts) ++ more) says) in
+      let e : cons u vs ≡ cons h.low (cons h.high nil) = sym says ∙ h.says in
+      let same : h.low ≡ u = cc in
+      none u (map (meant_in k) (all_words_in vs) ++ more) (record { alike = alike; row = apart }) r.low (subst (λ t. IsLevel (enabled_in k) g t r.low) same h.of_low)
 
   module _ (a b : rust.Term) (len : length terms ≡ 2) (is_a : a ≡ get_or terms 0 a) (is_b : b ≡ get_or terms 1 b) where
     -- what the two say
@@ -68,11 +78,6 @@ module _ (k : Known) (g : Ground) (f : Word → ScopedWord) (m : ℕ) (terms : L
       only (w ∷ ws) = ap (λ z. w ∷ z) (only ws)
 
     module _ (two : AreTwo) where
-      pub no_low : ((l : Level) → IsLevel (enabled_in k) g two.low l → ⊥) → (r : Range) → SaysRange (enabled_in k) g us r → ⊥
-      no_low none r h =
-          let e : cons two.low (cons two.high nil) ≡ cons h.low (cons h.high nil) = sym two.says ∙ h.says in
-          let same : h.low ≡ two.low = cc in none r.low (subst (λ t. IsLevel (enabled_in k) g t r.low) same h.of_low)
-
       pub no_high : ((l : Level) → IsLevel (enabled_in k) g two.high l → ⊥) → (r : Range) → SaysRange (enabled_in k) g us r → ⊥
       no_high none r h =
           let e : cons two.low (cons two.high nil) ≡ cons h.low (cons h.high nil) = sym two.says ∙ h.says in

@@ -1,5 +1,5 @@
 -- The walk over the terms of a statement.
-use Rattle.std.specs.Prelude.{Contains, Option, None, Some, drop, map, length}
+use Rattle.std.specs.Prelude.{Contains, IfOk, OnOk, Option, None, Some, Result, Ok, Err, drop, map, length}
 use Rattle.std.proofs.Common.{◌≡◌, ◌↔◌, ◌⊎◌, ℕ, zero, suc, ◌+◌, ◌<◌, ◌≤◌, Bool, true, false, List, [], ◌∷◌, ◌++◌, get_or, if◌then◌else◌, refl, sym, ◌∙◌, ap, subst, inl, inr, arith}
 use Rattle.std.proofs.lemmas.Bool.{true≢false}
 use Rattle.std.proofs.lemmas.List.{append_assoc, map-append}
@@ -37,12 +37,13 @@ use Rattle.cil_known.specs.declared.known.Known.{Known}
 use Rattle.cil_known.specs.Known.{enabled_in, meant_in, value_in}
 use Rattle.cil_attrs.specs.Plain.{are_plain}
 use Rattle.cil_attrs.proofs.PlainLemmas.{all_plain_wanted}
+use Rattle.cil_ranges.specs.declared.own.Judged.TheVariants as judged
 use Rattle.cil_ranges.specs.declared.walk.Ahead.{Ahead}
 use Rattle.cil_ranges.specs.declared.walk.Walk.{Walk}
 use Rattle.cil_ranges.specs.Inside.{IsInside, here, later, within}
 use Rattle.cil_ranges.specs.LevelFaults.{IsBackwards, IsFaultInside, IsTurned, IsUnpermitted, TermFault, categories_turned, level_category, levels_turned}
 use Rattle.cil_ranges.specs.Levels.{Ground}
-use Rattle.cil_ranges.specs.Reading.{AreAhead, AreRead, HaveMore, IsAhead, IsBehind, Judges}
+use Rattle.cil_ranges.specs.Reading.{AreAhead, AreRead, HaveMore, IsAhead, IsBehind, Judges, judged_as}
 use Rattle.cil_ranges.specs.Walked.{IsOpened, IsWalked, WalksForm, WalksTerm, WalksTerms, placed_in, space_in}
 use Rattle.cil_ranges.proofs.AlikeLemmas.{all_wanted_alike, all_words_alike, cons_alike, form_alike, leaf_alike, name_alike, none_alike, wanted_alike}
 
@@ -242,6 +243,40 @@ nothing_wrong s g space old at op us a b c = none_more old (λ f. TermFault s g 
   by f t (levels_turned bt ts is u told) e = b (let d : Form bt ops.LevelRange ts ≡ Form at op us = sym is ∙ e in cc)
   by f t (categories_turned bt ts is u told) e = c (let d : Form bt ops.Range ts ≡ Form at op us = sym is ∙ e in cc)
 
+judged_level : (op : Op) → judged_as op ≡ judged.Level → op ≡ ops.Level
+judged_level ops.Level e = refl
+judged_level ops.LevelRange e = absurd (let f : judged.Levels ≡ judged.Level = e in cc)
+judged_level ops.Range e = absurd (let f : judged.Categories ≡ judged.Level = e in cc)
+judged_level op e = absurd (let f : judged.Nothing ≡ judged.Level = e in cc)
+
+judged_levels : (op : Op) → judged_as op ≡ judged.Levels → op ≡ ops.LevelRange
+judged_levels ops.Level e = absurd (let f : judged.Level ≡ judged.Levels = e in cc)
+judged_levels ops.LevelRange e = refl
+judged_levels ops.Range e = absurd (let f : judged.Categories ≡ judged.Levels = e in cc)
+judged_levels op e = absurd (let f : judged.Nothing ≡ judged.Levels = e in cc)
+
+judged_categories : (op : Op) → judged_as op ≡ judged.Categories → op ≡ ops.Range
+judged_categories ops.Level e = absurd (let f : judged.Level ≡ judged.Categories = e in cc)
+judged_categories ops.LevelRange e = absurd (let f : judged.Levels ≡ judged.Categories = e in cc)
+judged_categories ops.Range e = refl
+judged_categories op e = absurd (let f : judged.Nothing ≡ judged.Categories = e in cc)
+
+pub as_level : (op : Op) → judged_as op ≡ judged.Level → (other : Op) → other ≡ op → other ≡ ops.Level
+as_level op e other same = same ∙ judged_level op e
+
+pub as_levels : (op : Op) → judged_as op ≡ judged.Levels → (other : Op) → other ≡ op → other ≡ ops.LevelRange
+as_levels op e other same = same ∙ judged_levels op e
+
+pub as_categories : (op : Op) → judged_as op ≡ judged.Categories → (other : Op) → other ≡ op → other ≡ ops.Range
+as_categories op e other same = same ∙ judged_categories op e
+
+pub is_nothing : (op : Op) → judged_as op ≡ judged.Nothing → (op ≡ ops.Level → ⊥) × (op ≡ ops.LevelRange → ⊥) × (op ≡ ops.Range → ⊥)
+is_nothing op e = (
+  λ is. let f : judged.Nothing ≡ judged.Level = sym e ∙ ap judged_as is in cc,
+  λ is. let f : judged.Nothing ≡ judged.Levels = sym e ∙ ap judged_as is in cc,
+  λ is. let f : judged.Nothing ≡ judged.Categories = sym e ∙ ap judged_as is in cc,
+)
+
 -- ---- what is behind
 
 map_behind : {X Y : Type 0} (h : X → Y) (xs : List X) → map h (drop 1 xs) ≡ drop 1 (map h xs)
@@ -402,3 +437,67 @@ module _ (w : Walk) (ts : List rust.Term) (a : Ahead) (old : List Fault) where
           λ y. elim ((was.more h).1 y) [ inl c ↦ c | inr q ↦ absurd (none_wrong (enabled_in k) g (space_in w) h (subst (λ z. IsFaultInside (enabled_in k) g (space_in w) z h) none q)) ],
         );
       }
+
+-- ---- what a call answers, said of something else
+
+pub done : {X E : Type 0} {A B : Type 0} → (r : Result X E) → (A → B) → OnOk r A → OnOk r B
+done (Ok x) h p = h p
+done r h p = p
+
+pub one_way : {X E : Type 0} {P Q : X → Type 0} → (r : Result X E) → ((x : X) → P x → Q x) → IfOk r P → IfOk r Q
+one_way (Ok x) h p = h x p
+one_way r h p = p
+
+-- ---- parts behind terms
+
+module _ (ps : List Placed) (f : Word → ScopedWord) (m : ℕ) (t : rust.Term) (u : Term ScopedWord) (xs : List Part) (parts : List kept_part.Part) (same : IsAlike (replaced (λ p. p) f (said_of m t)) u) (says : parts_there ps parts ≡ parts_of u ++ xs) where
+  pub past_leaf : (x : LookedUp) → t ≡ variants.Leaf x → (rest : List kept_part.Part) → rest ≡ drop 1 parts → parts_there ps rest ≡ xs
+  unfolding replaced parts_of
+  past_leaf x is rest cut =
+      let v = f (word_in m x) in
+      let leaf : u ≡ Leaf v = leaf_alike v u (subst (λ z. IsAlike (replaced (λ p. p) f z) u) (ap (said_of m) is ∙ leaf_said m x) same) in
+      part_behind ps parts rest cut (word v) xs (says ∙ ap (λ z. parts_of z ++ xs) leaf)
+
+  pub past_name : (at : ℕ) (bytes : Bytes) → t ≡ variants.Name at bytes → (rest : List kept_part.Part) → rest ≡ drop 1 parts → parts_there ps rest ≡ xs
+  unfolding replaced parts_of
+  past_name at bytes is rest cut =
+      let (bt, name) = name_alike (spot_at m at) bytes u (subst (λ z. IsAlike (replaced (λ p. p) f z) u) (ap (said_of m) is ∙ name_said m at bytes) same) in
+      part_behind ps parts rest cut (text bt bytes) xs (says ∙ ap (λ z. parts_of z ++ xs) name)
+
+  pub past_form : (op : Op) (at : ℕ) (inner : Vec rust.Term Global) → t ≡ variants.Form op at inner → (slice : List rust.Term) → slice ≡ inner.items → (front mid rest : List kept_part.Part) → front ≡ drop 1 parts → rest ≡ drop 1 mid
+      → ((us : Terms ScopedWord) (ys : List Part) → AreAlike (all_replaced (λ p. p) f (all_said m slice)) us → parts_there ps front ≡ all_parts_of us ++ ys → parts_there ps mid ≡ ys) → parts_there ps rest ≡ xs
+  unfolding replaced parts_of
+  past_form op at inner is slice cut front mid rest first last past =
+      let (bt, us, form, alike) = form_alike (spot_at m at) op (all_replaced (λ p. p) f (all_said m inner.items)) u (subst (λ z. IsAlike (replaced (λ p. p) f z) u) (ap (said_of m) is ∙ form_said m at op inner) same) in
+      let all : parts_there ps parts ≡ opens bt op ∷ (all_parts_of us ++ closes ∷ xs) = says ∙ ap (λ z. parts_of z ++ xs) form ∙ ap (λ z. opens bt op ∷ z) (append_assoc (all_parts_of us) (closes ∷ []) xs) in
+      let inside = part_behind ps parts front first (opens bt op) (all_parts_of us ++ closes ∷ xs) all in
+      part_behind ps mid rest last closes xs (past us (closes ∷ xs) (subst (λ z. AreAlike (all_replaced (λ p. p) f (all_said m z)) us) (sym cut) alike) inside)
+
+-- those of the first so many terms are behind
+abbrev pub ArePast : List rust.Term → List kept_part.Part → ℕ → List kept_part.Part → Type 0
+ArePast ts parts i rest =
+    (ps : List Placed) (f : Word → ScopedWord) (m : ℕ) (us : Terms ScopedWord) (xs : List Part) → AreAlike (all_replaced (λ p. p) f (all_said m ts)) us → parts_there ps parts ≡ all_parts_of us ++ xs
+    → (vs : Terms ScopedWord) × AreAlike (all_replaced (λ p. p) f (all_said m (drop i ts))) vs × (parts_there ps rest ≡ all_parts_of vs ++ xs)
+
+module _ (ts : List rust.Term) (parts : List kept_part.Part) where
+  pub none_past : ArePast ts parts 0 parts
+  none_past ps f m us xs same says = (us, same, says)
+
+  pub one_past : (i : ℕ) (d t : rust.Term) (rest next : List kept_part.Part) → i < length ts → t ≡ get_or ts i d
+      → ((ps : List Placed) (f : Word → ScopedWord) (m : ℕ) (u : Term ScopedWord) (xs : List Part) → IsAlike (replaced (λ p. p) f (said_of m t)) u → parts_there ps rest ≡ parts_of u ++ xs → parts_there ps next ≡ xs)
+      → ArePast ts parts i rest → ArePast ts parts (i + 1) next
+  unfolding all_replaced all_parts_of
+  one_past i d t rest next l is past left ps f m us xs same says =
+      let (vs, alike, are) = left ps f m us xs same says in
+      let cut : drop i ts ≡ t ∷ drop (i + 1) ts = dropped ts i d l ∙ ap (λ z. z ∷ drop (i + 1) ts) (sym is) in
+      let (u, ws, both, one, others) =
+      cons_alike (replaced (λ p. p) f (said_of m t)) (all_replaced (λ p. p) f (all_said m (drop (i + 1) ts))) vs (subst (λ z. AreAlike (all_replaced (λ p. p) f (all_said m z)) vs) cut alike) in
+      (ws, others, past ps f m u (all_parts_of ws ++ xs) one (are ∙ ap (λ z. all_parts_of z ++ xs) both ∙ append_assoc (parts_of u) (all_parts_of ws) xs))
+
+  pub all_past : (i : ℕ) (rest : List kept_part.Part) → length ts ≤ i → ArePast ts parts i rest → (ps : List Placed) (f : Word → ScopedWord) (m : ℕ) (us : Terms ScopedWord) (xs : List Part)
+      → AreAlike (all_replaced (λ p. p) f (all_said m ts)) us → parts_there ps parts ≡ all_parts_of us ++ xs → parts_there ps rest ≡ xs
+  unfolding all_replaced all_parts_of
+  all_past i rest over left ps f m us xs same says =
+      let (vs, alike, are) = left ps f m us xs same says in
+      let none : vs ≡ nil = none_alike vs (subst (λ z. AreAlike (all_replaced (λ p. p) f (all_said m z)) vs) (none_behind ts i over) alike) in
+      are ∙ ap (λ z. all_parts_of z ++ xs) none

@@ -18,6 +18,7 @@ ghost use Rattle.cil_ranges.specs.Levels.{Ground, IsLevel, IsWrittenLevel, SaysL
 ghost use Rattle.cil_ranges.specs.Reading.{AreRead, BeginsWithWord, HasLevels, IsRead, Measures, SaysNoLevel, is_word};
 
 use crate::scale::{Named, Scale, meant};
+use crate::slices::behind_one;
 use cil_known::{behind_first, meaning_at};
 use cil_mls::{Categories, Level, value};
 use cil_names::Meaning;
@@ -47,11 +48,11 @@ pub fn behind_word<'t, 'a>(terms: &'t [Term<'a>]) -> Option<&'t [Term<'a>]>
 {
     match terms {
         [] => None,
-        [first, rest @ ..] => {
+        [first, ..] => {
             if !is_word(first) {
                 return None;
             }
-            Some(rest)
+            Some(behind_one(terms))
         }
     }
 }

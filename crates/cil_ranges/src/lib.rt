@@ -7,6 +7,7 @@ mod level;
 mod own;
 mod range;
 mod scale;
+mod slices;
 mod walk;
 
 pub use check::push_level_faults;

@@ -16,6 +16,7 @@ ghost use Rattle.cil_mls.specs.Values.{IsFew};
 ghost use Rattle.cil_ranges.specs.Walked.{AddsBackwards, AddsOrder, AddsOwn, AddsTurned, AddsUnpermitted, WalksForm, WalksTerm, WalksTerms};
 
 use crate::own::{Judge, Judged, is_backwards, is_turned, is_unpermitted, judged_as};
+use crate::slices::behind_one;
 use cil_attrs::are_plain;
 use cil_base::NoMemory;
 use cil_blocks::spelled::spelled;
@@ -43,16 +44,6 @@ pub struct Walk<'w, 's, 'p, 'a> {
     pub at: usize,
     /// What levels are judged by.
     pub judge: Judge<'w>,
-}
-
-/// The parts behind the first.
-fn parts_behind<'r, 'a>(parts: &'r [Part<'a>]) -> &'r [Part<'a>]
-    ensures { result.now ≡ drop 1 parts.now }
-{
-    match parts {
-        [] => &[],
-        [_, rest @ ..] => rest,
-    }
 }
 
 /// Where the list begins that is the first of some parts.
@@ -102,10 +93,10 @@ fn parts_past<'r, 'a>(parts: &'r [Part<'a>], term: &Term) -> &'r [Part<'a>]
         → parts_there ps parts.now ≡ parts_of u ++ xs → parts_there ps result.now ≡ xs }
 {
     match term {
-        Term::Leaf(_) => parts_behind(parts),
-        Term::Name(_, _) => parts_behind(parts),
+        Term::Leaf(_) => behind_one(parts),
+        Term::Name(_, _) => behind_one(parts),
         Term::Form(_, _, inner) => {
-            parts_behind(parts_past_all(parts_behind(parts), inner.as_slice()))
+            behind_one(parts_past_all(behind_one(parts), inner.as_slice()))
         }
     }
 }
@@ -275,11 +266,11 @@ fn push_term<'r, 'a>(
     match term {
         Term::Leaf(_) => Ok(Ahead {
             words: behind_first(ahead.words),
-            parts: parts_behind(ahead.parts),
+            parts: behind_one(ahead.parts),
         }),
         Term::Name(_, _) => Ok(Ahead {
             words: ahead.words,
-            parts: parts_behind(ahead.parts),
+            parts: behind_one(ahead.parts),
         }),
         Term::Form(op, _, parts) => {
             if op.is_class_list() {
@@ -311,12 +302,12 @@ fn push_form<'r, 'a>(
     push_own(alloc, walk, faults, op, terms, &ahead)?;
     let inside = Ahead {
         words: ahead.words,
-        parts: parts_behind(ahead.parts),
+        parts: behind_one(ahead.parts),
     };
     let rest = push_terms(alloc, walk, faults, terms, inside)?;
     Ok(Ahead {
         words: rest.words,
-        parts: parts_behind(rest.parts),
+        parts: behind_one(rest.parts),
     })
 }
 
