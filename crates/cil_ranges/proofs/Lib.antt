@@ -4,3 +4,6 @@ pub mod RangeLemmas
 pub mod OwnLemmas
 pub mod WalkLemmas
 pub mod CheckLemmas
+pub mod BehindLemmas
+pub mod DeclaredLemmas
+pub mod UserLemmas

@@ -19,7 +19,7 @@ use Rattle.cil_ranges.proofs.AlikeLemmas.{cons_alike, none_alike}
 use Rattle.cil_ranges.proofs.ReadLemmas.{first_read, words_apart}
 
 -- terms that say two terms are two
-two_terms : (f : Word → ScopedWord) (m : ℕ) (terms : List rust.Term) (a b : Term ScopedWord) → AreAlike (all_replaced (λ at. at) f (all_said m terms)) (cons a (cons b nil)) → length terms ≡ 2
+pub two_terms : (f : Word → ScopedWord) (m : ℕ) (terms : List rust.Term) (a b : Term ScopedWord) → AreAlike (all_replaced (λ at. at) f (all_said m terms)) (cons a (cons b nil)) → length terms ≡ 2
 unfolding all_replaced
 two_terms f m [] a b same = absurd (let e = none_alike (cons a (cons b nil)) same in let g : cons a (cons b nil) ≡ nil = e in cc)
 two_terms f m (s ∷ []) a b same =

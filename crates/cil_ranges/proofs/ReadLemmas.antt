@@ -43,7 +43,7 @@ match_as (Some x) f g h = g x h
 
 -- ---- the words in front
 
-first_means : (k : Known) (w : ScopedWord) (rest : Terms ScopedWord) (words more : List (Option ℕ)) → words ≡ map (meant_in k) (all_words_in (cons (Leaf w) rest)) ++ more
+pub first_means : (k : Known) (w : ScopedWord) (rest : Terms ScopedWord) (words more : List (Option ℕ)) → words ≡ map (meant_in k) (all_words_in (cons (Leaf w) rest)) ++ more
     → (get_or words 0 None ≡ meant_in k w) × (drop 1 words ≡ map (meant_in k) (all_words_in rest) ++ more)
 unfolding words_in all_words_in
 first_means k w rest words more e = (ap (λ r. get_or r 0 None) e, ap (drop 1) e)

@@ -1,6 +1,10 @@
 pub mod Checked
+pub mod DeclaredEntries
+pub mod Given
 pub mod Inside
 pub mod LevelFaults
 pub mod Levels
+pub mod Named
 pub mod Reading
+pub mod Users
 pub mod Walked

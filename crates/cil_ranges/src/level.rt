@@ -57,7 +57,8 @@ pub fn behind_word<'t, 'a>(terms: &'t [Term<'a>]) -> Option<&'t [Term<'a>]>
     }
 }
 
-fn is_word(term: &Term) -> bool
+/// Whether a term is a word.
+pub fn is_word(term: &Term) -> bool
     ensures { (m : ℕ) → result ≡ is_word (said_of m term.now) }
 {
     matches!(term, Term::Leaf(_))

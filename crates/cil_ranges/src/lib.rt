@@ -3,11 +3,14 @@
 #![tactic(auto)]
 
 mod check;
+mod giving;
 mod level;
 mod own;
 mod range;
+mod said;
 mod scale;
 mod slices;
+mod users;
 mod walk;
 
 pub use check::push_level_faults;
