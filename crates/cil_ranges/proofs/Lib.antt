@@ -4,3 +4,7 @@ pub mod RangeLemmas
 pub mod OwnLemmas
 pub mod WalkLemmas
 pub mod CheckLemmas
+pub mod DeclaredLemmas
+pub mod BehindLemmas
+pub mod NamedLemmas
+pub mod SameLevelLemmas

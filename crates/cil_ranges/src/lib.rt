@@ -3,7 +3,9 @@
 #![tactic(auto)]
 
 mod check;
+mod declared;
 mod level;
+mod named;
 mod own;
 mod range;
 mod scale;
@@ -12,6 +14,7 @@ mod walk;
 
 pub use check::push_level_faults;
 pub use level::{level_of, said_level};
+pub use named::named_levels;
 pub use own::Judge;
 pub use range::{range_of, said_range};
 pub use scale::{Named, Ranged, Scale};

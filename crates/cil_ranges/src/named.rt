@@ -1,0 +1,141 @@
+//! What names of levels and of ranges stand for: for each declared name, by its entry, what its declaration says.
+
+ghost use Rattle.std.specs.Prelude.{◌≡◌, ◌≤◌, ◌<◌, ℕ, All, IfOk, true, false, List, MatchOption, None, OnOk, Option, Some, [], length, map, set};
+ghost use Rattle.cil_faults.specs.declared.fault.Fault.{Fault};
+ghost use Rattle.cil_syntax.specs.declared.kind.Kind as kinds;
+ghost use Rattle.cil_syntax.specs.declared.kind.Kind.TheVariants as variants;
+ghost use Rattle.cil_syntax.specs.declared.term.Word.{Word as AWord};
+ghost use Rattle.cil_syntax.specs.Scopes.{ScopedWord};
+ghost use Rattle.cil_macros.specs.Items.{item_at, items_in, namespaces_in, says_lists};
+ghost use Rattle.cil_macros.specs.Listed.{all_parts_of};
+ghost use Rattle.cil_macros.specs.ListTerms.{numbered};
+ghost use Rattle.cil_names.specs.Faults.{ClashFault};
+ghost use Rattle.cil_names.specs.Resolves.{is_mapping};
+ghost use Rattle.cil_names.specs.Rows.{IsTableOf};
+ghost use Rattle.cil_known.specs.Known.{IsKnown, enabled_in, row_in};
+ghost use Rattle.cil_mls.specs.declared.level.Level as levels;
+ghost use Rattle.cil_mls.specs.Values.{IsFew};
+ghost use Rattle.cil_ranges.specs.DeclaredEntries.{DeclaresEntry};
+ghost use Rattle.cil_ranges.specs.Levels.{Ground, IsWrittenLevel};
+ghost use Rattle.cil_ranges.specs.Named.{NamesMore, SaysBehind};
+ghost use Rattle.cil_ranges.specs.Reading.{AreRead, HasLevels, Measures};
+
+use crate::declared::entry_declared;
+use crate::level::written_level;
+use crate::scale::Scale;
+use cil_attrs::are_plain;
+use cil_base::NoMemory;
+use cil_known::Known;
+use cil_macros::Instances;
+use cil_mls::Level;
+use cil_names::{Meaning, laws};
+use cil_syntax::{Kind, Sign, Term};
+use std::alloc::Global;
+
+/// For each declared name, by its entry, the level that it names; none for any other. It costs a step for each statement, and an
+/// evaluation of each level that is declared. Error: out of memory, which is also the answer where the declaration of a level has
+/// permissions of a class in it: there is none of these.
+pub fn named_levels(
+    alloc: Global,
+    instances: &Instances,
+    known: &Known,
+    scale: &Scale,
+) -> Result<Vec<Option<Level>>, NoMemory>
+    requires namespaces { known.now.lookup.namespaces.now ≡ namespaces_in instances.now }
+    requires table { IsTableOf (map (row_in known.now) (items_in instances.now)) known.now.words.now }
+    requires known { (sections : kinds.Kind → List (List ℕ)) × IsKnown known.now (items_in instances.now) sections }
+    requires apart { (f : Fault) → ClashFault (items_in instances.now) f → ⊥ }
+    requires count { scale.now.categories.count ≤ 1024 }
+    requires few { All IsFew scale.now.categories.held.now }
+    ensures { IfOk result (λ levels. (g : Ground) → g.items ≡ items_in instances.now → Measures known.now scale.now g → HasLevels known.now levels.items g) }
+{
+    // What is known of a word: it means the entry that it names.
+    laws::means_what_it_names();
+    let mut levels = vec![in alloc; None; known.lookup.names.entries().len()]?;
+    for at in 0..instances.len() {
+        name_level(alloc, instances, known, scale, at, &mut levels)?;
+    }
+    Ok(levels)
+}
+
+/// Keeps the level that the statement at a place declares, if it declares one.
+fn name_level(
+    alloc: Global,
+    instances: &Instances,
+    known: &Known,
+    scale: &Scale,
+    at: usize,
+    levels: &mut Vec<Option<Level>>,
+) -> Result<(), NoMemory>
+    requires namespaces { known.now.lookup.namespaces.now ≡ namespaces_in instances.now }
+    requires table { IsTableOf (map (row_in known.now) (items_in instances.now)) known.now.words.now }
+    requires known { (sections : kinds.Kind → List (List ℕ)) × IsKnown known.now (items_in instances.now) sections }
+    requires within { at < length (items_in instances.now) }
+    requires room { length levels.old.items ≡ length known.now.lookup.names.now }
+    requires count { scale.now.categories.count ≤ 1024 }
+    requires few { All IsFew scale.now.categories.held.now }
+    ensures room { OnOk result (length levels.new.items ≡ length known.now.lookup.names.now) }
+    ensures named { OnOk result ((g : Ground) → Measures known.now scale.now g
+        → NamesMore (IsWrittenLevel (enabled_in known.now) g) known.now (items_in instances.now) variants.Level levels.old.items levels.new.items (item_at instances.now at)) }
+{
+    let Some(entry) = entry_declared(instances, known, Kind::Level, Sign::Levels, at) else {
+        return Ok(());
+    };
+    let level = declared_level(alloc, instances, known, scale, at)?;
+    keep(levels, entry, level);
+    Ok(())
+}
+
+/// The level that the declaration of a level at a place says. None if it says no level.
+fn declared_level(
+    alloc: Global,
+    instances: &Instances,
+    known: &Known,
+    scale: &Scale,
+    at: usize,
+) -> Result<Option<Level>, NoMemory>
+    requires table { IsTableOf (map (row_in known.now) (items_in instances.now)) known.now.words.now }
+    requires within { at < length (items_in instances.now) }
+    requires declares { (d : ℕ) × DeclaresEntry known.now (items_in instances.now) variants.Level (item_at instances.now at) d }
+    requires count { scale.now.categories.count ≤ 1024 }
+    requires few { All IsFew scale.now.categories.held.now }
+    ensures { IfOk result (λ level. (g : Ground) → Measures known.now scale.now g
+        → MatchOption level ((l : levels.Level) → SaysBehind (IsWrittenLevel (enabled_in known.now) g) (item_at instances.now at) l → ⊥) (SaysBehind (IsWrittenLevel (enabled_in known.now) g) (item_at instances.now at))) }
+{
+    let terms = plain_terms(alloc, instances, known, at)?;
+    let parts = terms.as_slice();
+    if parts.len() != 2 {
+        return Ok(None);
+    }
+    Ok(written_level(scale, &parts[1], known.words.row(at)))
+}
+
+/// What the statement at a place says, as terms whose words mean what those of its row do. Error: out of memory, which is also the
+/// answer where there are permissions of a class among them.
+fn plain_terms<'a>(
+    alloc: Global,
+    instances: &Instances<'_, '_, 'a>,
+    known: &Known,
+    at: usize,
+) -> Result<Vec<Term<'a>>, NoMemory>
+    requires within { at < length (items_in instances.now) }
+    requires lists { says_lists (item_at instances.now at).keyword ≡ true }
+    requires plain { is_mapping (item_at instances.now at).keyword ≡ false }
+    ensures { IfOk result (λ terms. AreRead known.now (numbered (all_parts_of (item_at instances.now at).args)) 0 terms.items (item_at instances.now at).args (row_in known.now (item_at instances.now at)) []) }
+{
+    let terms = instances.terms(alloc, at)?;
+    if !are_plain(terms.as_slice()) {
+        return Err(NoMemory);
+    }
+    Ok(terms)
+}
+
+/// Keeps what a name stands for at its entry, if it stands for something.
+fn keep<T: Copy>(table: &mut Vec<Option<T>>, entry: usize, named: Option<T>)
+    requires within { entry < length table.old.items }
+    ensures { MatchOption named (table.new.items ≡ table.old.items) (λ v. table.new.items ≡ set table.old.items entry (Some v)) }
+{
+    if let Some(value) = named {
+        table[entry] = Some(value);
+    }
+}
