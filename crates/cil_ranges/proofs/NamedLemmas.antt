@@ -8,7 +8,9 @@ use Rattle.std.proofs.lemmas.Option.{none-some, same_Some}
 use Rattle.cil_base.specs.Decided.{same_number}
 use Rattle.cil_base.specs.Places.{get_at}
 use Rattle.cil_syntax.specs.declared.kind.Kind.{Kind}
+use Rattle.cil_syntax.specs.declared.kind.Kind.TheVariants as kinds
 use Rattle.cil_syntax.specs.declared.kind.Sign.{Sign}
+use Rattle.cil_syntax.specs.declared.kind.Sign.TheVariants as signs
 use Rattle.cil_syntax.specs.Kinds.{is_wanted}
 use Rattle.cil_syntax.specs.Scopes.{ScopedWord}
 use Rattle.cil_syntax.specs.Terms.{Term, Leaf, Name, Terms, nil, cons}
@@ -21,11 +23,13 @@ use Rattle.cil_known.specs.Known.{IsKnown, enabled_in, meant_in}
 use Rattle.cil_known.specs.Spaces.{names}
 use Rattle.cil_attrs.specs.SetFaults.{symbol_under}
 use Rattle.cil_levels.proofs.BegunLemmas.{before_or_at}
+use Rattle.cil_mls.specs.declared.level.Range.{Range}
 use Rattle.cil_ranges.specs.DeclaredEntries.{DeclaresEntry, DeclaresJust, DeclaresNone}
-use Rattle.cil_ranges.specs.Levels.{Ground, IsDeclaredAs}
+use Rattle.cil_ranges.specs.Levels.{Ground, IsDeclaredAs, IsNamedRange, IsWrittenRange}
 use Rattle.cil_ranges.specs.Named.{AreNamed, AreNamedBefore, DeclaresAs, NamesMore, SaysBehind}
-use Rattle.cil_ranges.specs.Reading.{meant}
+use Rattle.cil_ranges.specs.Reading.{HasRanges, meant}
 use Rattle.cil_ranges.proofs.DeclaredLemmas.{means_names, names_means}
+use Rattle.cil_ranges.proofs.ReadLemmas.{match_as}
 
 -- ---- tables
 
@@ -143,3 +147,12 @@ module _ {X : Type 0} (Says : Term ScopedWord → X → Type 0) (k : Known) (g :
       by : (o : Option ℕ) → meant_in k w ≡ o → MatchOption (meant table o) ((v : X) → NamesAs w v → ⊥) (NamesAs w)
       by None is = λ v h. let (c, means, x, declared) = means_declared w v h in none-some c (sym is ∙ means)
       by (Some d) is = there d is (get_or table d None) refl
+
+-- the ranges of names are there
+module _ (k : Known) (g : Ground) (sections : Kind → List (List ℕ)) (known : IsKnown k g.items sections) (law : MeansWhatItNames) where
+  pub have_ranges : (table : List (Option Range)) → AreNamed (IsWrittenRange (enabled_in k) g) k g.items kinds.LevelRange table → HasRanges k table g
+  have_ranges table are = record {
+    each = λ w.
+        match_as (meant table (meant_in k w)) (λ isnt r (h : IsNamedRange (enabled_in k) g (Leaf w) r). isnt r (h.declared, h.is_declared, h.written)) (λ r (u, is, written). record { declared = u; is_declared = is; written = written })
+        (each_named (IsWrittenRange (enabled_in k) g) k g kinds.LevelRange signs.LevelRanges refl sections known law table are w);
+  }

@@ -14,7 +14,7 @@ mod walk;
 
 pub use check::push_level_faults;
 pub use level::{level_of, said_level};
-pub use named::named_levels;
+pub use named::{named_levels, named_ranges};
 pub use own::Judge;
 pub use range::{range_of, said_range};
 pub use scale::{Named, Ranged, Scale};

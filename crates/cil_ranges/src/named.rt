@@ -13,21 +13,23 @@ ghost use Rattle.cil_names.specs.Faults.{ClashFault};
 ghost use Rattle.cil_names.specs.Resolves.{is_mapping};
 ghost use Rattle.cil_names.specs.Rows.{IsTableOf};
 ghost use Rattle.cil_known.specs.Known.{IsKnown, enabled_in, row_in};
-ghost use Rattle.cil_mls.specs.declared.level.Level as levels;
+ghost use Rattle.cil_mls.specs.declared.level.Level as the_levels;
+ghost use Rattle.cil_mls.specs.declared.level.Range as the_ranges;
 ghost use Rattle.cil_mls.specs.Values.{IsFew};
 ghost use Rattle.cil_ranges.specs.DeclaredEntries.{DeclaresEntry};
-ghost use Rattle.cil_ranges.specs.Levels.{Ground, IsWrittenLevel};
+ghost use Rattle.cil_ranges.specs.Levels.{Ground, IsWrittenLevel, IsWrittenRange};
 ghost use Rattle.cil_ranges.specs.Named.{NamesMore, SaysBehind};
-ghost use Rattle.cil_ranges.specs.Reading.{AreRead, HasLevels, Measures};
+ghost use Rattle.cil_ranges.specs.Reading.{AreRead, HasLevels, HasRanges, Measures};
 
 use crate::declared::entry_declared;
 use crate::level::written_level;
-use crate::scale::Scale;
+use crate::range::written_range;
+use crate::scale::{Named, Scale};
 use cil_attrs::are_plain;
 use cil_base::NoMemory;
 use cil_known::Known;
 use cil_macros::Instances;
-use cil_mls::Level;
+use cil_mls::{Level, Range};
 use cil_names::{Meaning, laws};
 use cil_syntax::{Kind, Sign, Term};
 use std::alloc::Global;
@@ -100,7 +102,7 @@ fn declared_level(
     requires count { scale.now.categories.count ≤ 1024 }
     requires few { All IsFew scale.now.categories.held.now }
     ensures { IfOk result (λ level. (g : Ground) → Measures known.now scale.now g
-        → MatchOption level ((l : levels.Level) → SaysBehind (IsWrittenLevel (enabled_in known.now) g) (item_at instances.now at) l → ⊥) (SaysBehind (IsWrittenLevel (enabled_in known.now) g) (item_at instances.now at))) }
+        → MatchOption level ((l : the_levels.Level) → SaysBehind (IsWrittenLevel (enabled_in known.now) g) (item_at instances.now at) l → ⊥) (SaysBehind (IsWrittenLevel (enabled_in known.now) g) (item_at instances.now at))) }
 {
     let terms = plain_terms(alloc, instances, known, at)?;
     let parts = terms.as_slice();
@@ -108,6 +110,84 @@ fn declared_level(
         return Ok(None);
     }
     Ok(written_level(scale, &parts[1], known.words.row(at)))
+}
+
+/// For each declared name, by its entry, the range that it names; none for any other. It costs a step for each statement, and a reading of
+/// each range that is declared. Error: out of memory, which is also the answer where the declaration of a range has permissions of a
+/// class in it: there is none of these.
+pub fn named_ranges(
+    alloc: Global,
+    instances: &Instances,
+    known: &Known,
+    named: &Named,
+) -> Result<Vec<Option<Range>>, NoMemory>
+    requires namespaces { known.now.lookup.namespaces.now ≡ namespaces_in instances.now }
+    requires table { IsTableOf (map (row_in known.now) (items_in instances.now)) known.now.words.now }
+    requires known { (sections : kinds.Kind → List (List ℕ)) × IsKnown known.now (items_in instances.now) sections }
+    requires count { named.now.scale.categories.count ≤ 1024 }
+    requires few { All IsFew named.now.scale.categories.held.now }
+    ensures { IfOk result (λ ranges. (g : Ground) → g.items ≡ items_in instances.now → Measures known.now named.now.scale g → HasLevels known.now named.now.levels.now g
+        → HasRanges known.now ranges.items g) }
+{
+    // What is known of a word: it means the entry that it names.
+    laws::means_what_it_names();
+    let mut ranges = vec![in alloc; None; known.lookup.names.entries().len()]?;
+    for at in 0..instances.len() {
+        name_range(alloc, instances, known, named, at, &mut ranges)?;
+    }
+    Ok(ranges)
+}
+
+/// Keeps the range that the statement at a place declares, if it declares one.
+fn name_range(
+    alloc: Global,
+    instances: &Instances,
+    known: &Known,
+    named: &Named,
+    at: usize,
+    ranges: &mut Vec<Option<Range>>,
+) -> Result<(), NoMemory>
+    requires namespaces { known.now.lookup.namespaces.now ≡ namespaces_in instances.now }
+    requires table { IsTableOf (map (row_in known.now) (items_in instances.now)) known.now.words.now }
+    requires known { (sections : kinds.Kind → List (List ℕ)) × IsKnown known.now (items_in instances.now) sections }
+    requires within { at < length (items_in instances.now) }
+    requires room { length ranges.old.items ≡ length known.now.lookup.names.now }
+    requires count { named.now.scale.categories.count ≤ 1024 }
+    requires few { All IsFew named.now.scale.categories.held.now }
+    ensures room { OnOk result (length ranges.new.items ≡ length known.now.lookup.names.now) }
+    ensures named { OnOk result ((g : Ground) → Measures known.now named.now.scale g → HasLevels known.now named.now.levels.now g
+        → NamesMore (IsWrittenRange (enabled_in known.now) g) known.now (items_in instances.now) variants.LevelRange ranges.old.items ranges.new.items (item_at instances.now at)) }
+{
+    let Some(entry) = entry_declared(instances, known, Kind::LevelRange, Sign::LevelRanges, at) else {
+        return Ok(());
+    };
+    let range = declared_range(alloc, instances, known, named, at)?;
+    keep(ranges, entry, range);
+    Ok(())
+}
+
+/// The range that the declaration of a range at a place says. None if it says no range.
+fn declared_range(
+    alloc: Global,
+    instances: &Instances,
+    known: &Known,
+    named: &Named,
+    at: usize,
+) -> Result<Option<Range>, NoMemory>
+    requires table { IsTableOf (map (row_in known.now) (items_in instances.now)) known.now.words.now }
+    requires within { at < length (items_in instances.now) }
+    requires declares { (d : ℕ) × DeclaresEntry known.now (items_in instances.now) variants.LevelRange (item_at instances.now at) d }
+    requires count { named.now.scale.categories.count ≤ 1024 }
+    requires few { All IsFew named.now.scale.categories.held.now }
+    ensures { IfOk result (λ range. (g : Ground) → Measures known.now named.now.scale g → HasLevels known.now named.now.levels.now g
+        → MatchOption range ((r : the_ranges.Range) → SaysBehind (IsWrittenRange (enabled_in known.now) g) (item_at instances.now at) r → ⊥) (SaysBehind (IsWrittenRange (enabled_in known.now) g) (item_at instances.now at))) }
+{
+    let terms = plain_terms(alloc, instances, known, at)?;
+    let parts = terms.as_slice();
+    if parts.len() != 2 {
+        return Ok(None);
+    }
+    Ok(written_range(named, &parts[1], known.words.row(at)))
 }
 
 /// What the statement at a place says, as terms whose words mean what those of its row do. Error: out of memory, which is also the
