@@ -1,8 +1,6 @@
 -- What names of levels and of ranges stand for: what statements say one after another, and what words name.
-use Rattle.std.specs.Prelude.{Contains, MatchOption, Option, None, Some, length, map, replicate, set}
-use Rattle.std.proofs.Common.{◌≡◌, ◌⊎◌, ℕ, zero, suc, ◌+◌, ◌<◌, ◌≤◌, Bool, true, false, ◌||◌, not, List, [], ◌∷◌, ◌++◌, get_or, refl, sym, ◌∙◌, ap, subst, inl, inr, arith}
-use Rattle.std.specs.List.{list_any}
-use Rattle.std.proofs.lemmas.Bool.{true≢false}
+use Rattle.std.specs.Prelude.{MatchOption, Option, None, Some, length, set}
+use Rattle.std.proofs.Common.{◌≡◌, ◌⊎◌, ℕ, ◌+◌, ◌<◌, ◌≤◌, true, List, get_or, refl, sym, ◌∙◌, ap, subst, inl, inr, arith}
 use Rattle.std.proofs.lemmas.List.{get_or-set_other, get_or-set_same}
 use Rattle.std.proofs.lemmas.Option.{none-some, same_Some}
 use Rattle.cil_base.specs.Decided.{same_number}
@@ -13,7 +11,7 @@ use Rattle.cil_syntax.specs.declared.kind.Sign.{Sign}
 use Rattle.cil_syntax.specs.declared.kind.Sign.TheVariants as signs
 use Rattle.cil_syntax.specs.Kinds.{is_wanted}
 use Rattle.cil_syntax.specs.Scopes.{ScopedWord}
-use Rattle.cil_syntax.specs.Terms.{Term, Leaf, Name, Terms, nil, cons}
+use Rattle.cil_syntax.specs.Terms.{Term, Leaf, Name, nil, cons}
 use Rattle.cil_macros.specs.Item.{Item}
 use Rattle.cil_macros.specs.Items.{Kept, item_at, items_in}
 use Rattle.cil_macros.proofs.ItemLemmas.{item_there}

@@ -1,6 +1,6 @@
 -- A name has one level: no two declarations of it differ, and a level is what its declaration says, whatever the places of its words.
-use Rattle.std.specs.Prelude.{Contains, Option, None, Some, map}
-use Rattle.std.proofs.Common.{◌≡◌, ◌↔◌, ◌⊎◌, ℕ, ◌<◌, Bool, true, false, List, [], ◌∷◌, refl, sym, ◌∙◌, ap, subst, inl, inr}
+use Rattle.std.specs.Prelude.{Contains, Option, Some}
+use Rattle.std.proofs.Common.{◌≡◌, ℕ, ◌<◌, true, List, [], ◌∷◌, refl, sym, ◌∙◌, ap, subst, inl, inr}
 use Rattle.std.specs.List.{list_all}
 use Rattle.std.proofs.lemmas.Option.{same_Some}
 use Rattle.cil_base.specs.MadeLists.{contains_map}
@@ -17,8 +17,8 @@ use Rattle.cil_syntax.specs.NameSpaces.{name_space}
 use Rattle.cil_syntax.specs.Scopes.{ScopedWord}
 use Rattle.cil_syntax.specs.Table.{entry_of}
 use Rattle.cil_syntax.specs.Terms.{Term, Leaf, Name, Form, Terms, nil, cons}
-use Rattle.cil_macros.specs.Item.{Item, OptSet, all_replaced, everybody, is_enabled, replaced}
-use Rattle.cil_names.specs.Declarations.{Bare, Declaration, IsDeclaration, Symbol, bare, by, content_of, declarations, declared_by, nowhere}
+use Rattle.cil_macros.specs.Item.{Item, OptSet, all_replaced, everybody, replaced}
+use Rattle.cil_names.specs.Declarations.{Bare, Declaration, Symbol, bare, by, content_of, declarations, declared_by, nowhere}
 use Rattle.cil_names.specs.Entries.{candidates_of}
 use Rattle.cil_names.specs.Faults.{ClashFault, clash}
 use Rattle.cil_names.specs.Laws.{MeansWhatItNames}
@@ -33,7 +33,7 @@ use Rattle.cil_mls.specs.declared.level.Level.{Level}
 use Rattle.cil_mls.specs.Dominance.{AreSame, has}
 use Rattle.cil_mls.specs.Values.{in_term}
 use Rattle.cil_ranges.specs.declared.scale.Scale.{Scale}
-use Rattle.cil_ranges.specs.Levels.{Ground, IsDeclaredAs, IsNamedLevel, IsWrittenLevel, in_behind}
+use Rattle.cil_ranges.specs.Levels.{Ground, IsNamedLevel, IsWrittenLevel, in_behind}
 use Rattle.cil_ranges.specs.Reading.{HasLevels, Measures, meant}
 use Rattle.cil_ranges.specs.Named.{AreNamed}
 use Rattle.cil_ranges.proofs.AlikeLemmas.{value_replaced}
@@ -123,9 +123,9 @@ module _ (k : Known) (scale : Scale) (g : Ground) (measures : Measures k scale g
 
 module _ (k : Known) (g : Ground) (sections : Kind → List (List ℕ)) (known : IsKnown k g.items sections) (law : MeansWhatItNames) where
   -- one word names what is declared under one name
-  one_named : (w : ScopedWord) (x y : Item) (name other : List ℕ) → names g.items (enabled_in k) kinds.Level w (symbol_under x name) ≡ true → names g.items (enabled_in k) kinds.Level w (symbol_under y other) ≡ true
+  one_symbol_named : (w : ScopedWord) (x y : Item) (name other : List ℕ) → names g.items (enabled_in k) kinds.Level w (symbol_under x name) ≡ true → names g.items (enabled_in k) kinds.Level w (symbol_under y other) ≡ true
       → symbol_under x name ≡ symbol_under y other
-  one_named w x y name other a b =
+  one_symbol_named w x y name other a b =
       let (c, means, there) = names_means k g.items kinds.Level signs.Levels refl sections known law w (symbol_under x name) a in
       let (d, means_too, is) = names_means k g.items kinds.Level signs.Levels refl sections known law w (symbol_under y other) b in
       let same : c ≡ d = same_Some c d (sym means ∙ means_too) in
@@ -144,7 +144,7 @@ module _ (k : Known) (g : Ground) (sections : Kind → List (List ℕ)) (known :
         let word_b : Leaf w ≡ Leaf e.word = e.is_word in
         let same_a : d.word ≡ w = cc in
         let same_b : e.word ≡ w = cc in
-        let symbol = one_named w d.item e.item d.name e.name (ap (λ z. names g.items (enabled_in k) kinds.Level z (symbol_under d.item d.name)) (sym same_a) ∙ d.named)
+        let symbol = one_symbol_named w d.item e.item d.name e.name (ap (λ z. names g.items (enabled_in k) kinds.Level z (symbol_under d.item d.name)) (sym same_a) ∙ d.named)
         (ap (λ z. names g.items (enabled_in k) kinds.Level z (symbol_under e.item e.name)) (sym same_b) ∙ e.named) in
         same_level k scale g measures a.declared b.declared l m
         (same_content g.items (enabled_in k) apart kinds.Level (λ z. absurd cc) d.item e.item d.at e.at d.name e.name d.declares e.declares symbol a.declared b.declared d.says e.says) a.written b.written;

@@ -158,7 +158,8 @@ fn name_range(
     ensures named { OnOk result ((g : Ground) → Measures known.now named.now.scale g → HasLevels known.now named.now.levels.now g
         → NamesMore (IsWrittenRange (enabled_in known.now) g) known.now (items_in instances.now) variants.LevelRange ranges.old.items ranges.new.items (item_at instances.now at)) }
 {
-    let Some(entry) = entry_declared(instances, known, Kind::LevelRange, Sign::LevelRanges, at) else {
+    let Some(entry) = entry_declared(instances, known, Kind::LevelRange, Sign::LevelRanges, at)
+    else {
         return Ok(());
     };
     let range = declared_range(alloc, instances, known, named, at)?;

@@ -1,4 +1,4 @@
-use Rattle.std.proofs.Common.{◌≡◌, ap, arith, length, sym, ◌∙◌}
+use Rattle.std.proofs.Common.{arith}
 use Rattle.cil_base.specs.Places.{in_range}
 use Rattle.cil_syntax.specs.declared.kind.Kind.TheVariants as variants
 use Rattle.cil_macros.specs.Items.{item_at, items_in}

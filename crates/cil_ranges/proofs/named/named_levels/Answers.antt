@@ -2,7 +2,6 @@ use Rattle.std.proofs.Common.{List, arith, subst, sym}
 use Rattle.cil_faults.specs.declared.fault.Fault.{Fault}
 use Rattle.cil_syntax.specs.declared.kind.Kind.TheVariants as variants
 use Rattle.cil_macros.specs.Item.{Item}
-use Rattle.cil_macros.specs.Items.{items_in}
 use Rattle.cil_names.specs.Faults.{ClashFault}
 use Rattle.cil_known.specs.Known.{IsKnown, enabled_in}
 use Rattle.cil_ranges.specs.Levels.{IsWrittenLevel}
