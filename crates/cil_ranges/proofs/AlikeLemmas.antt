@@ -97,7 +97,7 @@ module _ {L M : Type 0} (a : Spot → Spot) (f : L → M) where
     span_replaced (cons (Leaf v) (cons (Leaf w) nil)) = refl
     span_replaced (cons (Leaf v) (cons (Leaf w) (cons d rest))) = refl
 
-    value_replaced : (e : Term L) → in_term helds count g c (replaced a f e) ≡ in_term helds count (λ w. g (f w)) c e
+    pub value_replaced : (e : Term L) → in_term helds count g c (replaced a f e) ≡ in_term helds count (λ w. g (f w)) c e
     value_replaced e = in_replaced (λ w. is_held c (meant_held helds (g w))) (ltb c count) (in_span helds g c) (in_span helds (λ w. g (f w)) c) span_replaced e
 
 pub same_value : (helds : List Held) (count : ℕ) (g : ScopedWord → Option ℕ) (c : ℕ) (f : Word → ScopedWord) (t : Term Word) (u : Term ScopedWord) → IsAlike (replaced (λ at. at) f t) u

@@ -1,8 +1,7 @@
 -- What a declaration says behind the name: one term, whose words mean what those of the row do.
-use Rattle.std.specs.Prelude.{Contains, MatchOption, Option, None, Some, map, length}
-use Rattle.std.proofs.Common.{◌≡◌, ◌⊎◌, ℕ, ◌+◌, Bool, true, false, ◌||◌, not, List, [], ◌∷◌, ◌++◌, get_or, refl, sym, ◌∙◌, ap, subst, inl, inr, arith}
+use Rattle.std.specs.Prelude.{Contains, MatchOption, Option, map, length}
+use Rattle.std.proofs.Common.{◌≡◌, ℕ, ◌+◌, Bool, true, false, ◌||◌, not, List, [], ◌∷◌, ◌++◌, get_or, refl, sym, ◌∙◌, ap, subst, arith}
 use Rattle.std.specs.List.{list_any}
-use Rattle.std.proofs.lemmas.Bool.{true≢false}
 use Rattle.std.proofs.lemmas.Simd.{map-map}
 use Rattle.cil_base.specs.Lists.{contains_none}
 use Rattle.cil_base.specs.Searches.{any_from}
@@ -13,11 +12,11 @@ use Rattle.cil_syntax.specs.declared.kind.Kind.{Kind}
 use Rattle.cil_syntax.specs.declared.kind.Kind.TheVariants as kinds
 use Rattle.cil_syntax.specs.declared.term.Term as rust
 use Rattle.cil_syntax.specs.declared.term.Word.{Word}
-use Rattle.cil_syntax.specs.Said.{all_said, said_of}
+use Rattle.cil_syntax.specs.Said.{all_said}
 use Rattle.cil_syntax.specs.Scopes.{ScopedWord}
 use Rattle.cil_syntax.specs.Table.{entry_of}
-use Rattle.cil_syntax.specs.Terms.{Term, Leaf, Name, Form, Terms, nil, cons}
-use Rattle.cil_macros.specs.Item.{Item, all_replaced, all_words_in, replaced, words_in}
+use Rattle.cil_syntax.specs.Terms.{Term, Name, Terms, nil, cons}
+use Rattle.cil_macros.specs.Item.{Item, all_replaced, all_words_in, words_in}
 use Rattle.cil_macros.specs.Items.{says_lists}
 use Rattle.cil_macros.specs.ListTerms.{AreAlike, nowhere}
 use Rattle.cil_names.specs.Resolves.{Word as AWord, all_wanted_in, is_mapping}
@@ -26,17 +25,17 @@ use Rattle.cil_known.specs.declared.known.Known.{Known}
 use Rattle.cil_known.specs.Known.{meant_in, row_in, value_in}
 use Rattle.cil_attrs.specs.Plain.{are_plain}
 use Rattle.cil_attrs.proofs.PlainLemmas.{all_plain_wanted}
-use Rattle.cil_ranges.specs.DeclaredEntries.{DeclaresEntry}
 use Rattle.cil_ranges.specs.Levels.{Ground}
 use Rattle.cil_ranges.specs.Named.{SaysBehind}
 use Rattle.cil_ranges.specs.Reading.{AreRead, IsRead}
+use Rattle.cil_ranges.proofs.CheckLemmas.{all_append}
 use Rattle.cil_ranges.proofs.AlikeLemmas.{all_wanted_alike, all_words_alike}
 use Rattle.cil_ranges.proofs.RangeLemmas.{AreTwo, two_read}
 use Rattle.cil_ranges.proofs.ReadLemmas.{match_as}
 
 -- ---- the statements that declare levels and ranges
 
--- what may say lists
+-- the kinds of what has levels behind its name
 abbrev pub is_ranged : Kind → Bool
 is_ranged kinds.Level = true
 is_ranged kinds.LevelRange = true
@@ -56,10 +55,6 @@ no_mapping_declared keywords.ClassMapping kind c = absurd (contains_none kind c)
 no_mapping_declared keyword kind c = refl
 
 -- ---- what they say
-
-all_append : {X : Type 0} (xs : List X) → xs ≡ xs ++ []
-all_append [] = refl
-all_append (x ∷ xs) = ap (λ ys. x ∷ ys) (all_append xs)
 
 -- where no term is a class with its permissions, the row is that of the words
 pub declared_read : (k : Known) (x : Item) (f : Word → ScopedWord) (m : ℕ) (ts : List rust.Term) → is_mapping x.keyword ≡ false → AreAlike (all_replaced (λ at. at) f (all_said m ts)) x.args → are_plain (all_said m ts) ≡ true
@@ -111,7 +106,7 @@ module _ {X : Type 0} (Says : Term ScopedWord → X → Type 0) (k : Known) (x :
         let low : two.low ≡ Name at name = cc in
         match_as o
         (λ (isnt : (v : X) → Says two.high v → ⊥) v h.
-            let e : cons two.low (cons two.high nil) ≡ cons (Name h.at h.name) (cons h.declared nil) = sym two.says ∙ h.says in
-            let same : h.declared ≡ two.high = cc in isnt v (subst (λ z. Says z v) same h.of_declared))
+        let e : cons two.low (cons two.high nil) ≡ cons (Name h.at h.name) (cons h.declared nil) = sym two.says ∙ h.says in
+        let same : h.declared ≡ two.high = cc in isnt v (subst (λ z. Says z v) same h.of_declared))
         (λ v says. record { at = at; name = name; declared = two.high; says = two.says ∙ ap (λ z. cons z (cons two.high nil)) low; of_declared = says })
         (answer two.high (two.second words (no_words_first two.low low (map (meant_in k) (words_in two.high) ++ []) two.first.row)))

@@ -1,6 +1,6 @@
 -- Which names statements declare, and which words mean them: by numbers just where the definition says so.
-use Rattle.std.specs.Prelude.{Contains, MatchOption, Option, Some, None}
-use Rattle.std.proofs.Common.{◌≡◌, ℕ, ◌<◌, Bool, true, List, refl, sym, ◌∙◌, ap, subst}
+use Rattle.std.specs.Prelude.{MatchOption, Option, Some, None}
+use Rattle.std.proofs.Common.{◌≡◌, ℕ, true, List, refl, sym, ◌∙◌, ap, subst}
 use Rattle.std.proofs.lemmas.Bool.{true≢false}
 use Rattle.std.proofs.lemmas.Option.{same_Some}
 use Rattle.cil_faults.specs.declared.spot.Spot.{Spot}
@@ -30,7 +30,7 @@ use Rattle.cil_attrs.proofs.FaultLemmas.{its_entry}
 use Rattle.cil_attrs.proofs.GiverLemmas.{names_nothing}
 use Rattle.cil_attrs.proofs.HoldingLemmas.{both, kind_named, pair, same_symbol}
 use Rattle.cil_attrs.proofs.MembersLemmas.{same_self}
-use Rattle.cil_ranges.specs.DeclaredEntries.{DeclaresEntry, DeclaresJust, DeclaresNone}
+use Rattle.cil_ranges.specs.DeclaredEntries.{DeclaresJust, DeclaresNone}
 
 module _ (k : Known) (xs : List Item) (kind : Kind) (sign : Sign) (wanted : is_wanted sign kind ≡ true) where
   abbrev ss : List Space

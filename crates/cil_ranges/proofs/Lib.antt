@@ -1,9 +1,12 @@
 pub mod AlikeLemmas
-pub mod ReadLemmas
-pub mod RangeLemmas
-pub mod OwnLemmas
-pub mod WalkLemmas
-pub mod CheckLemmas
 pub mod BehindLemmas
+pub mod CheckLemmas
 pub mod DeclaredLemmas
+pub mod NamedLemmas
+pub mod OwnLemmas
+pub mod RangeLemmas
+pub mod ReadLemmas
+pub mod SameLevelLemmas
+pub mod SameRangeLemmas
 pub mod UserLemmas
+pub mod WalkLemmas

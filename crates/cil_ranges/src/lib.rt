@@ -3,8 +3,10 @@
 #![tactic(auto)]
 
 mod check;
+mod declared;
 mod giving;
 mod level;
+mod named;
 mod own;
 mod range;
 mod said;
@@ -15,6 +17,8 @@ mod walk;
 
 pub use check::push_level_faults;
 pub use level::{level_of, said_level};
+pub use named::{named_levels, named_ranges};
 pub use own::Judge;
 pub use range::{range_of, said_range};
 pub use scale::{Named, Ranged, Scale};
+pub use users::{UserRanges, user_ranges};

@@ -1,0 +1,27 @@
+use Rattle.std.proofs.Common.{arith}
+use Rattle.cil_base.specs.Places.{in_range}
+use Rattle.cil_syntax.specs.declared.kind.Kind.TheVariants as variants
+use Rattle.cil_macros.specs.Items.{item_at, items_in}
+use Rattle.cil_known.specs.Known.{enabled_in}
+use Rattle.cil_ranges.specs.Levels.{IsWrittenLevel}
+use Rattle.cil_ranges.proofs.NamedLemmas.{nothing_named, one_named}
+use Rattle.cil_ranges.proofs.named.name_level.Goals as goal
+
+pub returns-in_default-clause-named : goal.returns-in_default-clause-named
+returns-in_default-clause-named c g measures =
+    nothing_named (IsWrittenLevel (enabled_in c.args.known.now) g) c.args.known.now (items_in c.args.instances.now) variants.Level c.args.levels.now.items (item_at c.args.instances.now c.args.at) c.in_default.ensures
+
+pub keep-requires : goal.keep-requires
+keep-requires c =
+    let e = c.in-Some.ensures.declares.entry in
+    let below = in_range c.args.known.now.lookup.names.now c.in-Some.entry e.entry e.at in
+    let room = c.requires.room in
+    omega (arith, below, room)
+
+pub returns-clause-named : goal.returns-clause-named
+returns-clause-named c g measures =
+    let e = c.in-Some.ensures.declares.entry in
+    let below = in_range c.args.known.now.lookup.names.now c.in-Some.entry e.entry e.at in
+    let room = c.requires.room in
+    one_named (IsWrittenLevel (enabled_in c.args.known.now) g) c.args.known.now (items_in c.args.instances.now) variants.Level c.args.levels.now.items (item_at c.args.instances.now c.args.at) c.in-Some.entry c.in-Some.ensures
+    (omega (arith, below, room)) c.keep.new.table.items c.in_ok-level.level (c.in_ok-level.ensures g measures) c.keep.ensures
