@@ -1,6 +1,6 @@
 -- What statements one after another add.
 use Rattle.std.specs.Prelude.{Contains, Option, map, length, take}
-use Rattle.std.proofs.Common.{◌≡◌, ◌↔◌, ◌⊎◌, ℕ, ◌+◌, ◌<◌, ◌≤◌, Bool, true, false, List, [], ◌∷◌, ◌++◌, refl, sym, ◌∙◌, ap, subst, inl, inr, arith}
+use Rattle.std.proofs.Common.{◌≡◌, ℕ, ◌+◌, ◌≤◌, true, false, List, [], ◌∷◌, ◌++◌, refl, sym, ◌∙◌, ap, subst, inl, inr}
 use Rattle.std.proofs.lemmas.Bool.{true≢false}
 use Rattle.std.proofs.lemmas.List.{take_all}
 use Rattle.cil_base.specs.Lists.{contains_none}
@@ -9,8 +9,7 @@ use Rattle.cil_faults.specs.declared.fault.Fault.{Fault}
 use Rattle.cil_syntax.specs.declared.kind.Keyword.{Keyword}
 use Rattle.cil_syntax.specs.declared.kind.Keyword.TheVariants as keywords
 use Rattle.cil_syntax.specs.Scopes.{ScopedWord}
-use Rattle.cil_syntax.specs.Terms.{Leaf, Terms, nil, cons}
-use Rattle.cil_macros.specs.Calls.{is_call}
+use Rattle.cil_syntax.specs.Terms.{Leaf}
 use Rattle.cil_macros.specs.Item.{Item, OptSet, is_enabled}
 use Rattle.cil_macros.specs.Items.{leaves, says_lists}
 use Rattle.cil_names.specs.Resolves.{all_wanted_in, is_mapping}
@@ -23,7 +22,6 @@ use Rattle.cil_ranges.specs.Checked.{AddsAmong, AddsInside, AddsSaid}
 use Rattle.cil_ranges.specs.Inside.{says_levels}
 use Rattle.cil_ranges.specs.LevelFaults.{IsFaultInside, IsFaultSaid}
 use Rattle.cil_ranges.specs.Levels.{Ground}
-use Rattle.cil_ranges.specs.Reading.{HaveMore, Judges}
 use Rattle.cil_ranges.proofs.WalkLemmas.{leaf_right, none_more, none_wrong, then_more, wrong_apart}
 
 -- ---- statements that have levels

@@ -8,5 +8,6 @@ pub mod RangeLemmas
 pub mod ReadLemmas
 pub mod SameLevelLemmas
 pub mod SameRangeLemmas
+pub mod UserFaultLemmas
 pub mod UserLemmas
 pub mod WalkLemmas

@@ -1,27 +1,25 @@
 -- What is wrong with a form itself.
-use Rattle.std.specs.Prelude.{MatchOption, Option, None, Some, map, length, not, slice_get}
+use Rattle.std.specs.Prelude.{Option, None, Some, map, length, not, slice_get}
 use Rattle.std.specs.Bool.{MatchBool}
-use Rattle.std.proofs.Common.{◌≡◌, ◌↔◌, ◌⊎◌, ℕ, zero, suc, ◌+◌, ◌<◌, ◌≤◌, Bool, true, false, ◌&&◌, ◌||◌, List, [], ◌∷◌, ◌++◌, get_or, refl, sym, ◌∙◌, ap, subst, inl, inr, arith}
+use Rattle.std.proofs.Common.{◌≡◌, ◌⊎◌, ℕ, zero, suc, ◌<◌, ◌≤◌, Bool, true, false, ◌&&◌, ◌||◌, List, [], ◌∷◌, ◌++◌, get_or, refl, sym, ◌∙◌, ap, subst, inl, inr, arith}
 use Rattle.std.proofs.lemmas.Bool.{cases_Bool, true≢false}
-use Rattle.std.proofs.lemmas.Option.{none-some, same_Some}
+use Rattle.std.proofs.lemmas.Option.{same_Some}
 use Rattle.cil_base.specs.Places.{in_range, some_at}
 use Rattle.cil_syntax.specs.declared.term.Op.TheVariants as ops
 use Rattle.cil_syntax.specs.declared.term.Term as rust
 use Rattle.cil_syntax.specs.declared.term.Word.{Word}
 use Rattle.cil_syntax.specs.Said.{all_said, said_of}
 use Rattle.cil_syntax.specs.Scopes.{ScopedWord}
-use Rattle.cil_syntax.specs.Terms.{Term, Leaf, Name, Form, Terms, nil, cons}
+use Rattle.cil_syntax.specs.Terms.{Term, Leaf, Form, Terms, nil, cons}
 use Rattle.cil_macros.specs.Item.{all_replaced, all_words_in, replaced, words_in}
 use Rattle.cil_macros.specs.ListTerms.{AreAlike}
 use Rattle.cil_known.specs.declared.known.Known.{Known}
 use Rattle.cil_known.specs.Known.{enabled_in, meant_in}
-use Rattle.cil_mls.specs.declared.categories.Categories.{Categories}
-use Rattle.cil_mls.specs.declared.expression.Held.{Held}
-use Rattle.cil_mls.specs.declared.expression.Held.TheVariants.{Nothing, Category, Set}
+use Rattle.cil_mls.specs.declared.expression.Held.TheVariants.{Category}
 use Rattle.cil_mls.specs.declared.level.Level.{Level}
 use Rattle.cil_mls.specs.declared.level.Range.{Range}
 use Rattle.cil_mls.specs.Bits.{in_words}
-use Rattle.cil_mls.specs.Dominance.{AreSame, Dominates, IsIn, are_covered, has}
+use Rattle.cil_mls.specs.Dominance.{AreSame, Dominates, are_covered, has}
 use Rattle.cil_mls.specs.Values.{meant_held}
 use Rattle.cil_levels.specs.Places.{IsCategoryAt}
 use Rattle.cil_ranges.specs.declared.own.Judge.{Judge}
@@ -29,7 +27,7 @@ use Rattle.cil_ranges.specs.declared.own.Span.{Span}
 use Rattle.cil_ranges.specs.declared.scale.Scale.{Scale}
 use Rattle.cil_ranges.specs.LevelFaults.{IsBackwards, IsTurned, IsUnpermitted}
 use Rattle.cil_ranges.specs.Levels.{Ground, IsLevel, IsSensitivityAt, IsNamedLevel, IsWrittenLevel, SaysLevel, SaysRange, in_behind}
-use Rattle.cil_ranges.specs.Reading.{AreRead, BeginsWithWord, HasLevels, IsSpan, Judges, LevelIsPermitted, Measures, SaysNoLevel, meant}
+use Rattle.cil_ranges.specs.Reading.{HasLevels, IsSpan, Judges, LevelIsPermitted, Measures, SaysNoLevel}
 use Rattle.cil_ranges.proofs.AlikeLemmas.{cons_alike}
 
 -- ---- tests

@@ -1,13 +1,13 @@
 -- How ranges are read: two levels, one behind the other.
-use Rattle.std.specs.Prelude.{MatchOption, Option, None, Some, map, length}
-use Rattle.std.proofs.Common.{◌≡◌, ℕ, ◌≤◌, List, [], ◌∷◌, ◌++◌, get_or, refl, sym, ◌∙◌, ap, subst, inl, inr, arith}
+use Rattle.std.specs.Prelude.{Option, map, length}
+use Rattle.std.proofs.Common.{◌≡◌, ℕ, ◌≤◌, List, [], ◌∷◌, ◌++◌, get_or, refl, sym, ◌∙◌, ap, subst}
 use Rattle.cil_syntax.specs.declared.term.Term as rust
 use Rattle.cil_syntax.specs.declared.term.Word.{Word}
 use Rattle.cil_syntax.specs.Said.{all_said, said_of}
 use Rattle.cil_syntax.specs.Scopes.{ScopedWord}
-use Rattle.cil_syntax.specs.Terms.{Term, Leaf, Name, Form, Terms, nil, cons}
+use Rattle.cil_syntax.specs.Terms.{Term, Terms, nil, cons}
 use Rattle.cil_macros.specs.Item.{all_replaced, all_words_in, replaced, words_in}
-use Rattle.cil_macros.specs.ListTerms.{AreAlike, IsAlike}
+use Rattle.cil_macros.specs.ListTerms.{AreAlike}
 use Rattle.cil_known.specs.declared.known.Known.{Known}
 use Rattle.cil_known.specs.Known.{enabled_in, meant_in}
 use Rattle.cil_mls.specs.declared.level.Level.{Level}
@@ -73,9 +73,9 @@ module _ (k : Known) (g : Ground) (f : Word → ScopedWord) (m : ℕ) (terms : L
           first = record { alike = one; row = apart ∙ ap (λ ws. map (meant_in k) (words_in u) ++ (map (meant_in k) ws ++ more)) end };
           second = λ r is. record { alike = other; row = is };
         } where
-      only : {L : Type 0} (ws : List L) → ws ++ [] ≡ ws
-      only [] = refl
-      only (w ∷ ws) = ap (λ z. w ∷ z) (only ws)
+          only : {L : Type 0} (ws : List L) → ws ++ [] ≡ ws
+          only [] = refl
+          only (w ∷ ws) = ap (λ z. w ∷ z) (only ws)
 
     module _ (two : AreTwo) where
       pub no_high : ((l : Level) → IsLevel (enabled_in k) g two.high l → ⊥) → (r : Range) → SaysRange (enabled_in k) g us r → ⊥

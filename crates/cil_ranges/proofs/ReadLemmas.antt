@@ -1,6 +1,6 @@
 -- How levels and ranges are read, term by term.
 use Rattle.std.specs.Prelude.{MatchOption, Option, None, Some, drop, map, length}
-use Rattle.std.proofs.Common.{◌≡◌, ◌⊎◌, ℕ, ◌<◌, ◌≤◌, List, [], ◌∷◌, ◌++◌, get_or, true, false, refl, sym, ◌∙◌, ap, subst, inl, inr, arith}
+use Rattle.std.proofs.Common.{◌≡◌, ℕ, ◌<◌, ◌≤◌, List, [], ◌∷◌, ◌++◌, get_or, true, false, refl, sym, ◌∙◌, ap, subst, inl, inr, arith}
 use Rattle.std.proofs.lemmas.List.{map-append, append_assoc}
 use Rattle.std.proofs.lemmas.Option.{none-some}
 use Rattle.std.proofs.lemmas.Simd.{map-map}
@@ -28,12 +28,12 @@ use Rattle.cil_mls.specs.declared.level.Level.{Level}
 use Rattle.cil_mls.specs.declared.level.Range.{Range}
 use Rattle.cil_mls.specs.Bits.{in_words}
 use Rattle.cil_mls.specs.Dominance.{has}
-use Rattle.cil_mls.specs.Values.{IsValue, in_term}
+use Rattle.cil_mls.specs.Values.{IsValue}
 use Rattle.cil_levels.specs.Values.{in_value}
 use Rattle.cil_ranges.specs.declared.scale.Scale.{Scale}
-use Rattle.cil_ranges.specs.Levels.{Ground, IsLevel, IsNamedLevel, IsNamedRange, IsRange, IsSensitivityAt, IsWrittenLevel, IsWrittenRange, SaysLevel, SaysRange, in_behind}
+use Rattle.cil_ranges.specs.Levels.{Ground, IsLevel, IsNamedLevel, IsNamedRange, IsRange, IsWrittenLevel, IsWrittenRange, SaysLevel, SaysRange, in_behind}
 use Rattle.cil_ranges.specs.Reading.{AreRead, BeginsWithWord, HasLevels, HasRanges, IsRead, Measures, SaysNoLevel, is_word, meant}
-use Rattle.cil_ranges.proofs.AlikeLemmas.{all_words_alike, cons_alike, form_alike, leaf_alike, name_alike, none_alike, same_value, words_alike}
+use Rattle.cil_ranges.proofs.AlikeLemmas.{cons_alike, form_alike, leaf_alike, name_alike, none_alike, same_value, words_alike}
 
 -- ---- what is answered, said of something else
 
@@ -209,11 +209,15 @@ module _ (k : Known) (g : Ground) (f : Word → ScopedWord) (m : ℕ) (t : rust.
       → (bt : Spot) × (us : Terms ScopedWord) × (u ≡ Form bt op us) × AreRead k f m slice us words more
   unfolding replaced words_in
   read_form op at parts is slice same =
-      let (bt, us, says, alike) = form_alike (spot_at m at) op (all_replaced (λ at. at) f (all_said m parts.items)) u (subst (λ z. IsAlike (replaced (λ at. at) f z) u) (ap (said_of m) is ∙ form_said m at op parts) read.alike) in
-      (bt, us, says, record {
-        alike = subst (λ ts. AreAlike (all_replaced (λ at. at) f (all_said m ts)) us) (sym same) alike;
-        row = read.row ∙ ap (λ z. map (meant_in k) (words_in z) ++ more) says;
-      })
+      let (bt, us, says, alike) = form_alike (spot_at m at) op (all_replaced (λ at. at) f (all_said m parts.items)) u (subst (λ z. IsAlike (replaced (λ at. at) f z) u) (ap (said_of m) is ∙ form_said m at op parts) read.alike) in (
+        bt,
+        us,
+        says,
+        record {
+          alike = subst (λ ts. AreAlike (all_replaced (λ at. at) f (all_said m ts)) us) (sym same) alike;
+          row = read.row ∙ ap (λ z. map (meant_in k) (words_in z) ++ more) says;
+        },
+      )
 
   pub leaf_level : (levels : List (Option Level)) (o : Option Level) → HasLevels k levels g → (w : LookedUp) → t ≡ variants.Leaf w → o ≡ meant levels (get_or words 0 None)
       → MatchOption o ((l : Level) → IsLevel (enabled_in k) g u l → ⊥) (IsLevel (enabled_in k) g u)

@@ -1,13 +1,13 @@
 -- A term has one range: no two declarations of a name differ.
 use Rattle.std.specs.Prelude.{Option}
-use Rattle.std.proofs.Common.{◌≡◌, ℕ, true, List, refl, sym, ◌∙◌, ap, subst, inl, inr}
+use Rattle.std.proofs.Common.{◌≡◌, ℕ, List, refl, sym, ◌∙◌, ap, subst, inl, inr}
 use Rattle.cil_faults.specs.declared.fault.Fault.{Fault}
 use Rattle.cil_syntax.specs.declared.kind.Kind.{Kind}
 use Rattle.cil_syntax.specs.declared.kind.Kind.TheVariants as kinds
 use Rattle.cil_syntax.specs.declared.kind.Sign.TheVariants as signs
 use Rattle.cil_syntax.specs.declared.term.Op.TheVariants as ops
 use Rattle.cil_syntax.specs.Scopes.{ScopedWord}
-use Rattle.cil_syntax.specs.Terms.{Term, Leaf, Form, Terms, nil, cons}
+use Rattle.cil_syntax.specs.Terms.{Term, Leaf, Form, nil, cons}
 use Rattle.cil_macros.specs.Item.{Item, OptSet, all_replaced, replaced}
 use Rattle.cil_names.specs.Declarations.{Symbol, bare, content_of, nowhere}
 use Rattle.cil_names.specs.Faults.{ClashFault}
@@ -24,7 +24,6 @@ use Rattle.cil_ranges.specs.declared.scale.Scale.{Scale}
 use Rattle.cil_ranges.specs.Levels.{Ground, IsLevel, IsNamedLevel, IsNamedRange, IsRange, IsWrittenRange}
 use Rattle.cil_ranges.specs.Reading.{HasLevels, Measures}
 use Rattle.cil_ranges.specs.Users.{IsSameRange}
-use Rattle.cil_ranges.proofs.OwnLemmas.{one_level}
 use Rattle.cil_ranges.proofs.SameLevelLemmas.{bare_term, dressed, one_symbol_named, same_content, same_level}
 
 -- what a word names does not hang on where it is
@@ -97,7 +96,7 @@ module _ (k : Known) (scale : Scale) (g : Ground) (measures : Measures k scale g
         let words : Leaf d.word ≡ Leaf e.word = sym d.is_word ∙ e.is_word in
         let word : e.word ≡ d.word = cc in
         let symbol = one_symbol_named k g sections known law kinds.LevelRange signs.LevelRanges refl d.word d.item e.item d.name e.name d.named
-            (ap (λ z. names g.items (enabled_in k) kinds.LevelRange z (symbol_under e.item e.name)) (sym word) ∙ e.named) in
+        (ap (λ z. names g.items (enabled_in k) kinds.LevelRange z (symbol_under e.item e.name)) (sym word) ∙ e.named) in
         written_same a.declared b.declared r p
         (same_content g.items (enabled_in k) apart kinds.LevelRange (λ z. absurd cc) d.item e.item d.at e.at d.name e.name d.declares e.declares symbol a.declared b.declared d.says e.says) a.written b.written
 

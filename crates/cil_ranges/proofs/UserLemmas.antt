@@ -1,11 +1,12 @@
 -- What statements give users.
-use Rattle.std.specs.Prelude.{Contains, MatchOption, Option, None, Some, drop, map, length, replicate, slice_get, take}
-use Rattle.std.proofs.Common.{◌≡◌, ◌↔◌, ◌⊎◌, ℕ, zero, suc, ◌+◌, ◌<◌, ◌≤◌, Bool, true, false, List, [], ◌∷◌, ◌++◌, get_or, refl, sym, ◌∙◌, ap, subst, inl, inr, arith}
+use Rattle.std.specs.Prelude.{Contains, Option, None, Some, drop, map, length, replicate, slice_get, take}
+use Rattle.std.proofs.Common.{◌≡◌, ◌⊎◌, ℕ, zero, suc, ◌+◌, ◌<◌, ◌≤◌, true, false, List, [], ◌∷◌, ◌++◌, get_or, refl, sym, ◌∙◌, ap, subst, inl, inr, arith}
 use Rattle.std.proofs.lemmas.Bool.{cases_eq, true≢false}
 use Rattle.std.proofs.lemmas.List.{take_all}
 use Rattle.std.proofs.lemmas.List.Elements.{Contains-append_cases, Contains-append_left, Contains-append_right}
 use Rattle.std.proofs.lemmas.Option.{none-some, same_Some}
 use Rattle.cil_base.specs.Lists.{contains_cases, contains_here, contains_none}
+use Rattle.cil_base.specs.Places.{longer}
 use Rattle.cil_syntax.specs.declared.kind.Keyword.TheVariants as keywords
 use Rattle.cil_syntax.specs.declared.kind.Kind.{Kind}
 use Rattle.cil_syntax.specs.declared.kind.Kind.TheVariants as kinds
@@ -14,9 +15,9 @@ use Rattle.cil_syntax.specs.declared.term.Term as rust
 use Rattle.cil_syntax.specs.declared.term.Word.{Word}
 use Rattle.cil_syntax.specs.Said.{all_said, said_of}
 use Rattle.cil_syntax.specs.Scopes.{ScopedWord}
-use Rattle.cil_syntax.specs.Terms.{Term, Leaf, Name, Form, Terms, nil, cons}
-use Rattle.cil_macros.specs.Item.{Item, all_replaced, all_words_in, is_enabled, replaced, words_in}
-use Rattle.cil_macros.specs.ListTerms.{AreAlike, IsAlike}
+use Rattle.cil_syntax.specs.Terms.{Term, Leaf, Terms, nil, cons}
+use Rattle.cil_macros.specs.Item.{Item, all_replaced, all_words_in, is_enabled, words_in}
+use Rattle.cil_macros.specs.ListTerms.{AreAlike}
 use Rattle.cil_names.specs.Declarations.{Symbol}
 use Rattle.cil_names.specs.Laws.{MeansWhatItNames}
 use Rattle.cil_names.specs.Symbols.{symbol_of}
@@ -34,8 +35,8 @@ use Rattle.cil_ranges.specs.declared.users.UserRanges.{UserRanges}
 use Rattle.cil_ranges.specs.Given.{AreGiven, GivesTo, IsGiving, HasRoom, IsGivenBy, IsGivenOne, IsSaidGiving, IsUserEntry, ReadsRanges, SaysGiving}
 use Rattle.cil_ranges.specs.Levels.{Ground, IsRange}
 use Rattle.cil_ranges.specs.Reading.{AreRead, IsRead, is_word}
-use Rattle.cil_ranges.specs.Users.{GivesRange, IsSameRange}
-use Rattle.cil_ranges.proofs.DeclaredLemmas.{means_names, names_means, one_place, one_symbol}
+use Rattle.cil_ranges.specs.Users.{IsSameRange}
+use Rattle.cil_ranges.proofs.DeclaredLemmas.{means_names, names_means, one_place}
 use Rattle.cil_ranges.proofs.RangeLemmas.{AreTwo, two_read, two_terms}
 use Rattle.cil_ranges.proofs.ReadLemmas.{first_means, is_leaf_read, match_as, no_word_in_front, the_word}
 
@@ -273,6 +274,23 @@ module _ (k : Known) (g : Ground) (x : Item) where
     }
 
 -- ---- one after another
+
+-- so many times nothing
+pub record AreNoneUpTo {X : Type 0} (count : ℕ) (xs : List (Option X)) : Type 0 where
+  pub few : length xs ≤ count
+  pub none : (d : ℕ) → get_or xs d None ≡ None
+
+pub no_ones : {X : Type 0} (count : ℕ) (xs : List (Option X)) → xs ≡ [] → AreNoneUpTo count xs
+no_ones count xs e = subst (AreNoneUpTo count) (sym e) (record { few = omega arith; none = λ d. refl })
+
+none_more_at : {X : Type 0} (xs : List (Option X)) → ((d : ℕ) → get_or xs d None ≡ None) → (d : ℕ) → get_or (xs ++ None ∷ []) d None ≡ None
+none_more_at [] none zero = refl
+none_more_at [] none (suc d) = refl
+none_more_at (x ∷ xs) none zero = none zero
+none_more_at (x ∷ xs) none (suc d) = none_more_at xs (λ e. none (suc e)) d
+
+pub one_none : {X : Type 0} (count : ℕ) (xs new : List (Option X)) → new ≡ xs ++ None ∷ [] → length xs < count → AreNoneUpTo count xs → AreNoneUpTo count new
+one_none count xs new e less are = subst (AreNoneUpTo count) (sym e) (record { few = let n = longer xs None in omega (arith, less, n); none = none_more_at xs are.none })
 
 -- what is the same everywhere
 pub all_same : {X : Type 0} (n : ℕ) (x : X) (xs : List X) → xs ≡ replicate n x → (d : ℕ) → get_or xs d x ≡ x

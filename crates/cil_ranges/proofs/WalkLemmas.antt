@@ -1,6 +1,6 @@
 -- The walk over the terms of a statement.
-use Rattle.std.specs.Prelude.{Contains, IfOk, OnOk, Option, None, Some, Result, Ok, Err, drop, map, length}
-use Rattle.std.proofs.Common.{◌≡◌, ◌↔◌, ◌⊎◌, ℕ, zero, suc, ◌+◌, ◌<◌, ◌≤◌, Bool, true, false, List, [], ◌∷◌, ◌++◌, get_or, if◌then◌else◌, refl, sym, ◌∙◌, ap, subst, inl, inr, arith}
+use Rattle.std.specs.Prelude.{Contains, IfOk, OnOk, Option, Result, Ok, drop, map, length}
+use Rattle.std.proofs.Common.{◌≡◌, ◌↔◌, ◌⊎◌, ℕ, zero, suc, ◌+◌, ◌<◌, ◌≤◌, true, false, List, [], ◌∷◌, ◌++◌, get_or, if◌then◌else◌, refl, sym, ◌∙◌, ap, subst, inl, inr, arith}
 use Rattle.std.proofs.lemmas.Bool.{true≢false}
 use Rattle.std.proofs.lemmas.List.{append_assoc, map-append}
 use Rattle.std.proofs.lemmas.List.Elements.{Contains-append_cases, Contains-append_left, Contains-append_right}
@@ -27,14 +27,13 @@ use Rattle.cil_syntax.proofs.SaidLemmas.{form_said, leaf_said, name_said}
 use Rattle.cil_syntax.specs.Scopes.{ScopedWord}
 use Rattle.cil_syntax.specs.Terms.{Term, Leaf, Name, Form, Terms, nil, cons}
 use Rattle.cil_macros.specs.declared.listed.Part as kept_part
-use Rattle.cil_macros.specs.declared.placed_word.PlacedWord.{PlacedWord}
 use Rattle.cil_macros.specs.Item.{OptSet, all_replaced, all_words_in, replaced}
-use Rattle.cil_macros.specs.Listed.{Part, all_parts_of, closes, opens, parts_of, parts_there, part_there, scoped_by, text, word}
+use Rattle.cil_macros.specs.Listed.{Part, all_parts_of, closes, opens, parts_of, parts_there, part_there, text, word}
 use Rattle.cil_macros.specs.ListTerms.{AreAlike, IsAlike}
 use Rattle.cil_macros.specs.Placed.{Placed}
 use Rattle.cil_names.specs.Resolves.{Word as AWord, all_wanted_in, wanted_in, words_of_class}
 use Rattle.cil_known.specs.declared.known.Known.{Known}
-use Rattle.cil_known.specs.Known.{enabled_in, meant_in, value_in}
+use Rattle.cil_known.specs.Known.{enabled_in, value_in}
 use Rattle.cil_attrs.specs.Plain.{are_plain}
 use Rattle.cil_attrs.proofs.PlainLemmas.{all_plain_wanted}
 use Rattle.cil_ranges.specs.declared.own.Judged.TheVariants as judged
@@ -43,7 +42,7 @@ use Rattle.cil_ranges.specs.declared.walk.Walk.{Walk}
 use Rattle.cil_ranges.specs.Inside.{IsInside, here, later, within}
 use Rattle.cil_ranges.specs.LevelFaults.{IsBackwards, IsFaultInside, IsTurned, IsUnpermitted, TermFault, categories_turned, level_category, levels_turned}
 use Rattle.cil_ranges.specs.Levels.{Ground}
-use Rattle.cil_ranges.specs.Reading.{AreAhead, AreRead, HaveMore, IsAhead, IsBehind, Judges, judged_as}
+use Rattle.cil_ranges.specs.Reading.{AreAhead, AreRead, HaveMore, Judges, judged_as}
 use Rattle.cil_ranges.specs.Walked.{IsOpened, IsWalked, WalksForm, WalksTerm, WalksTerms, placed_in, space_in}
 use Rattle.cil_ranges.proofs.AlikeLemmas.{all_wanted_alike, all_words_alike, cons_alike, form_alike, leaf_alike, name_alike, none_alike, wanted_alike}
 
@@ -207,6 +206,11 @@ module _ (k : Known) (f : Word → ScopedWord) (ps : List Placed) (ts : List rus
   unfolding parts_of all_parts_of
   named_second w rest says = o.says ∙ ap (λ vs. opens at op ∷ (all_parts_of vs ++ o.parts)) says
 
+-- the parts of terms that begin with a word
+pub word_parts : (w : ScopedWord) (rest : Terms ScopedWord) → all_parts_of (cons (Leaf w) rest) ≡ word w ∷ all_parts_of rest
+unfolding parts_of all_parts_of
+word_parts w rest = refl
+
 -- ---- one level, one range
 
 module _ (s : OptSet) (g : Ground) (space : Namespace) (old new : List Fault) (at : Spot) (us : Terms ScopedWord) where
@@ -297,7 +301,6 @@ unfolding wanted_in
 not_class at op us e = ap (λ b. if b then words_of_class us else all_wanted_in us) e
 
 module _ (w : Walk) (t : rust.Term) (a rest : Ahead) (old : List Fault) where
-
   pub walks_leaf : (x : LookedUp) → t ≡ variants.Leaf x → rest.words.now ≡ drop 1 a.words.now → rest.parts.now ≡ drop 1 a.parts.now → WalksTerm w a old old rest t
   unfolding replaced wanted_in parts_of
   walks_leaf x is cut_words cut_parts k g f u words parts judges ahead =
@@ -406,7 +409,7 @@ module _ (w : Walk) (ts : List rust.Term) (a : Ahead) (old : List Fault) where
       let (u, vs, says, one, others) =
       cons_alike (replaced (λ p. p) f (said_of 0 t)) (all_replaced (λ p. p) f (all_said 0 (drop (i + 1) ts))) was.left (subst (λ z. AreAlike (all_replaced (λ p. p) f (all_said 0 z)) was.left) cut was.ahead.alike) in
       let asks = was.ahead.asks ∙ ap (λ z. map (value_in k) (all_wanted_in z) ++ words) says ∙ ap (λ z. z ++ words) (map-append (value_in k) (wanted_in u) (all_wanted_in vs))
-          ∙ append_assoc (map (value_in k) (wanted_in u)) (map (value_in k) (all_wanted_in vs)) words in
+      ∙ append_assoc (map (value_in k) (wanted_in u)) (map (value_in k) (all_wanted_in vs)) words in
       let parts_are = was.ahead.says ∙ ap (λ z. all_parts_of z ++ parts) says ∙ append_assoc (parts_of u) (all_parts_of vs) parts in
       let walked = walks k g f u (map (value_in k) (all_wanted_in vs) ++ words) (all_parts_of vs ++ parts) judges (record { alike = one; asks = asks; says = parts_are }) in
       record {

@@ -1,5 +1,9 @@
 -- The ranges of users, by the numbers of their entries. No other crate needs these words.
-use Rattle.std.specs.Prelude.{◌≡◌, ◌⊎◌, ◌<◌, ℕ, true, false, List, [], ◌∷◌, ◌++◌, Contains, MatchOption, Option, None, Some, get_or, length}
+use Rattle.std.specs.Prelude.{◌≡◌, ◌↔◌, ◌⊎◌, ◌<◌, ℕ, Bool, true, false, List, [], ◌∷◌, ◌++◌, Contains, MatchOption, Option, None, Some, get_or, length}
+use Rattle.cil_faults.specs.Reported.{fault_at}
+use Rattle.cil_faults.specs.declared.code.FaultCode.TheVariants as causes
+use Rattle.cil_faults.specs.declared.fault.Fault.{Fault}
+use Rattle.cil_syntax.specs.declared.kind.Keyword.TheVariants as keywords
 use Rattle.cil_syntax.specs.declared.kind.Kind.TheVariants as kinds
 use Rattle.cil_syntax.specs.Scopes.{ScopedWord}
 use Rattle.cil_syntax.specs.Terms.{Term, Leaf, Terms, nil, cons}
@@ -64,6 +68,14 @@ module _ (k : Known) (g : Ground) where
 abbrev pub IsUserWithin : Known → Option Giving → Type 0
 IsUserWithin k o = MatchOption o (Unit {0}) (λ v. v.user < length k.lookup.names.now)
 
+-- so it is of what a statement gives, which is one that gives ranges
+pub record IsThere (k : Known) (x : Item) (v : Giving) : Type 0 where
+  pub within : v.user < length k.lookup.names.now
+  pub gives : x.keyword ≡ keywords.UserRange
+
+abbrev pub IsGivenThere : Known → Item → Option Giving → Type 0
+IsGivenThere k x o = MatchOption o (Unit {0}) (IsThere k x)
+
 -- there is room for each entry
 pub record HasRoom (k : Known) (all : UserRanges) : Type 0 where
   pub of_ranges : length all.ranges.items ≡ length k.lookup.names.now
@@ -82,3 +94,17 @@ pub record IsGivenOne (v : Giving) (old new : UserRanges) : Type 0 where
 -- what one statement gives is added
 abbrev pub IsGivenBy : Known → Ground → Item → UserRanges → UserRanges → Type 0
 IsGivenBy k g x old new = (xs : List Item) → AreGiven k g xs old → AreGiven k g (xs ++ x ∷ []) new
+
+-- ---- what is told
+
+-- the statement gives a range to a user that is flagged
+pub record IsToldTwice (k : Known) (g : Ground) (differing : List Bool) (x : Item) (f : Fault) : Type 0 where
+  pub entry : ℕ
+  pub range : Range
+  pub gives : GivesTo k g x entry range
+  pub flagged : get_or differing entry false ≡ true
+  pub told : f ≡ fault_at causes.UserRangeTwice gives.word.at x.space gives.word.bytes
+
+-- the flags are those of the names that have nothing
+abbrev pub AreWithout : List (Option Range) → List Bool → Type 0
+AreWithout ranges flags = (d : ℕ) → d < length ranges → (get_or flags d false ≡ true) ↔ (get_or ranges d None ≡ None)

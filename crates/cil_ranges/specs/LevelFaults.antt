@@ -1,6 +1,6 @@
 -- What is wrong with levels and ranges. CIL Reference Guide, "sensitivitycategory", "levelrange" and "Expressions"; which of it is a
 -- fault is this project's profile.
-use Rattle.std.specs.Prelude.{◌≡◌, ℕ, ◌<◌, true, List, []}
+use Rattle.std.specs.Prelude.{◌≡◌, ℕ, ◌<◌, true, []}
 use Rattle.cil_faults.specs.Namespaces.{Namespace}
 use Rattle.cil_faults.specs.Reported.{fault_at}
 use Rattle.cil_faults.specs.declared.code.FaultCode.TheVariants as causes

@@ -12,7 +12,7 @@ ghost use Rattle.cil_known.specs.declared.known.Known as a_known;
 ghost use Rattle.cil_known.specs.Known.{IsKnown, row_in};
 ghost use Rattle.cil_mls.specs.Values.{IsFew};
 ghost use Rattle.cil_ranges.specs.declared.giving.Giving as givings;
-ghost use Rattle.cil_ranges.specs.Given.{IsGiving, IsSaidGiving, IsUserEntry, IsUserWithin, ReadsRanges};
+ghost use Rattle.cil_ranges.specs.Given.{IsGivenThere, IsGiving, IsSaidGiving, IsUserEntry, IsUserWithin, ReadsRanges};
 ghost use Rattle.cil_ranges.specs.Levels.{Ground};
 ghost use Rattle.cil_ranges.specs.Reading.{AreRead};
 
@@ -51,7 +51,7 @@ pub fn giving_at(
     requires within { at < length (items_in instances.now) }
     requires count { by.now.named.scale.categories.count ≤ 1024 }
     requires few { All IsFew by.now.named.scale.categories.held.now }
-    ensures within { IfOk result (IsUserWithin known.now) }
+    ensures there { IfOk result (IsGivenThere known.now (item_at instances.now at)) }
     ensures gives { IfOk result (λ giving. (g : Ground) → g.items ≡ items_in instances.now → ReadsRanges known.now by.now g → IsGiving known.now g (item_at instances.now at) giving) }
 {
     // What is known of a word: it means the entry that it names.
@@ -63,21 +63,11 @@ pub fn giving_at(
         return Ok(None);
     }
     let terms = plain_terms(alloc, instances, known, at)?;
-    Ok(giving_said(
-        known,
-        by,
-        terms.as_slice(),
-        known.words.row(at),
-    ))
+    Ok(giving_said(known, by, terms.as_slice(), known.words.row(at)))
 }
 
 /// What terms give, whose words mean this: a word for a user, and a range.
-fn giving_said(
-    known: &Known,
-    by: &Ranged,
-    terms: &[Term],
-    words: &[Meaning],
-) -> Option<Giving>
+fn giving_said(known: &Known, by: &Ranged, terms: &[Term], words: &[Meaning]) -> Option<Giving>
     requires count { by.now.named.scale.categories.count ≤ 1024 }
     requires few { All IsFew by.now.named.scale.categories.held.now }
     ensures within { IsUserWithin known.now result }

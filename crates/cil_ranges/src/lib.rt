@@ -12,6 +12,8 @@ mod range;
 mod said;
 mod scale;
 mod slices;
+mod told;
+mod user_faults;
 mod users;
 mod walk;
 
@@ -21,4 +23,5 @@ pub use named::{named_levels, named_ranges};
 pub use own::Judge;
 pub use range::{range_of, said_range};
 pub use scale::{Named, Ranged, Scale};
+pub use user_faults::push_user_faults;
 pub use users::{UserRanges, user_ranges};

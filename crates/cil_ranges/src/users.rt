@@ -1,6 +1,6 @@
 //! The ranges of users.
 
-ghost use Rattle.std.specs.Prelude.{◌≡◌, ◌↔◌, ◌≤◌, ◌<◌, ℕ, All, IfOk, IsTrue, List, OnOk, length, map};
+ghost use Rattle.std.specs.Prelude.{◌≡◌, ◌↔◌, ◌≤◌, ◌<◌, ℕ, All, IfOk, IsTrue, List, None, OnOk, false, get_or, length, map};
 ghost use Rattle.cil_syntax.specs.declared.kind.Kind as kinds;
 ghost use Rattle.cil_macros.specs.Items.{item_at, items_in, namespaces_in};
 ghost use Rattle.cil_names.specs.Rows.{IsTableOf};
@@ -46,13 +46,25 @@ pub fn user_ranges(
 {
     let count = known.lookup.names.entries().len();
     let mut all = UserRanges {
-        ranges: vec![in alloc; None; count]?,
+        ranges: no_ranges(alloc, count)?,
         differing: vec![in alloc; false; count]?,
     };
     for at in 0..instances.len() {
         give_at(alloc, instances, known, by, at, &mut all)?;
     }
     Ok(all)
+}
+
+/// No range for each of so many names.
+fn no_ranges(alloc: Global, count: usize) -> Result<Vec<Option<Range>>, NoMemory>
+    ensures len { IfOk result (λ ranges. length ranges.items ≡ count) }
+    ensures none { IfOk result (λ ranges. (d : ℕ) → get_or ranges.items d None ≡ None) }
+{
+    let mut ranges = Vec::new(alloc);
+    while ranges.len() < count {
+        ranges.push(None)?;
+    }
+    Ok(ranges)
 }
 
 /// Adds what the statement at a place gives.
@@ -110,4 +122,14 @@ fn same_level(a: &Level, b: &Level) -> bool
     ensures { IsTrue result ↔ AreSame a.now b.now }
 {
     a.dominates(b) && b.dominates(a)
+}
+
+/// Whether the flag of an entry is set.
+pub fn is_flagged(flags: &[bool], entry: usize) -> bool
+    ensures { result ≡ get_or flags.now entry false }
+{
+    match flags.get(entry) {
+        Some(flag) => *flag,
+        None => false,
+    }
 }

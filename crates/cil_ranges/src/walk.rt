@@ -17,13 +17,13 @@ ghost use Rattle.cil_ranges.specs.Walked.{AddsBackwards, AddsOrder, AddsOwn, Add
 
 use crate::own::{Judge, Judged, is_backwards, is_turned, is_unpermitted, judged_as};
 use crate::slices::behind_one;
+use crate::told::push_told;
 use cil_attrs::are_plain;
 use cil_base::NoMemory;
-use cil_blocks::spelled::spelled;
 use cil_known::{behind, behind_first};
 use cil_macros::{Instances, Part, PlacedWord};
 use cil_names::Meaning;
-use cil_syntax::{Fault, FaultCode, Op, Spot, Term, push_fault_in};
+use cil_syntax::{Fault, FaultCode, Op, Spot, Term};
 use std::alloc::Global;
 
 /// What is ahead in a statement: the meanings of what it asks for, and its parts as it says them.
@@ -77,7 +77,8 @@ fn naming<'r, 'a>(parts: &'r [Part<'a>]) -> Option<&'r PlacedWord<'a>>
     }
 }
 
-fn word_there<'r, 'a>(part: &'r Part<'a>) -> Option<&'r PlacedWord<'a>>
+/// The word that a part is.
+pub fn word_there<'r, 'a>(part: &'r Part<'a>) -> Option<&'r PlacedWord<'a>>
     ensures { (ps : List Placed) (w : ScopedWord) → part_there ps part.now ≡ word w → MatchOption result ⊥ (λ there. scoped_by ps there.now ≡ w) }
 {
     match part {
@@ -114,30 +115,6 @@ fn parts_past_all<'r, 'a>(parts: &'r [Part<'a>], terms: &[Term]) -> &'r [Part<'a
     rest
 }
 
-impl<'w, 's, 'p, 'a> Walk<'w, 's, 'p, 'a> {
-    ghost use Rattle.std.specs.Prelude.{◌≡◌, ◌++◌, ◌∷◌, [], ◌<◌, OnOk, length};
-    ghost use Rattle.cil_faults.specs.Reported.{fault_at};
-    ghost use Rattle.cil_macros.specs.Items.{item_at, items_in};
-
-    /// Adds a fault that is told of the statement.
-    fn push_told(
-        &self,
-        alloc: Global,
-        faults: &mut Vec<Fault>,
-        code: FaultCode,
-        at: Spot,
-        word: &[u8],
-    ) -> Result<(), NoMemory>
-        requires { self.now.at < length (items_in self.now.instances.now) }
-        ensures { OnOk result (faults.new.items ≡ faults.old.items ++ fault_at code at (item_at self.now.instances.now self.now.at).space word.now ∷ []) }
-    {
-        let instances = self.instances;
-        let space = spelled(alloc, instances.namespaces(), instances.space(self.at))?;
-        push_fault_in(alloc, faults, code, at, space, word)?;
-        Ok(())
-    }
-}
-
 /// Adds what is wrong with a level with these parts.
 fn push_unpermitted(
     alloc: Global,
@@ -160,8 +137,10 @@ fn push_unpermitted(
     let Some(there) = naming(ahead.parts) else {
         return Err(NoMemory);
     };
-    walk.push_told(
+    push_told(
         alloc,
+        walk.instances,
+        walk.at,
         faults,
         FaultCode::LevelCategory,
         there.word.at,
@@ -224,7 +203,15 @@ fn push_order(
     let Some(at) = opening(parts) else {
         return Err(NoMemory);
     };
-    walk.push_told(alloc, faults, FaultCode::RangeOrder, at, &[])
+    push_told(
+        alloc,
+        walk.instances,
+        walk.at,
+        faults,
+        FaultCode::RangeOrder,
+        at,
+        &[],
+    )
 }
 
 /// Adds what is wrong with a form itself.

@@ -1,5 +1,5 @@
 use Rattle.std.specs.Prelude.{option_map}
-use Rattle.std.proofs.Common.{◌≡◌, [], map, ◌∙◌, ap, subst, sym}
+use Rattle.std.proofs.Common.{[], map, ◌∙◌, ap, subst, sym}
 use Rattle.std.proofs.lemmas.Option.{slice_get-map}
 use Rattle.cil_syntax.specs.Said.{all_said}
 use Rattle.cil_macros.specs.Item.{all_replaced}

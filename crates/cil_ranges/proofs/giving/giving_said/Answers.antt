@@ -1,4 +1,4 @@
-use Rattle.std.proofs.Common.{◌∙◌, ap, arith, sym}
+use Rattle.std.proofs.Common.{arith, sym}
 use Rattle.cil_ranges.specs.Given.{IsUserEntry}
 use Rattle.cil_ranges.proofs.UserLemmas.{high, high_read, is_given, no_range_given, no_two_given, no_user_given, no_word_given}
 use Rattle.std.proofs.Common.{subst}

@@ -1,5 +1,5 @@
 use Rattle.std.specs.Prelude.{Some}
-use Rattle.std.proofs.Common.{◌≡◌, ◌<◌, ◌∙◌, arith, ap, length, sym}
+use Rattle.std.proofs.Common.{◌<◌, ◌∙◌, arith, ap, length, sym}
 use Rattle.std.proofs.lemmas.Bool.Decides.{nat_tests}
 use Rattle.cil_base.specs.Places.{is_there}
 use Rattle.cil_ranges.proofs.UserLemmas.{is_user_entry}

@@ -1,8 +1,7 @@
-use Rattle.std.proofs.Common.{◌≡◌, ◌<◌, Bool, arith, length, sym, ◌∙◌, ap, None, get_or}
+use Rattle.std.proofs.Common.{◌<◌, arith, length, sym, ◌∙◌, ap}
 use Rattle.std.proofs.lemmas.Bool.Decides.{nat_tests}
 use Rattle.cil_syntax.specs.Terms.{Leaf, cons}
 use Rattle.cil_mls.specs.Values.{meant_held}
-use Rattle.cil_mls.specs.declared.expression.Held.TheVariants.{Category}
 use Rattle.cil_ranges.proofs.OwnLemmas.{is_span, more_than_two, no_first, no_front, no_last, no_second}
 use Rattle.cil_ranges.proofs.ReadLemmas.{none_read}
 use Rattle.cil_ranges.proofs.own.span_of.Goals as goal

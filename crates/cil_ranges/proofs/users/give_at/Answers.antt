@@ -1,6 +1,6 @@
 use Rattle.std.proofs.Common.{subst, arith}
 use Rattle.cil_macros.specs.Items.{item_at, items_in}
-use Rattle.cil_ranges.specs.Given.{IsGiving, IsUserWithin}
+use Rattle.cil_ranges.specs.Given.{IsGivenThere, IsGiving}
 use Rattle.cil_ranges.proofs.UserLemmas.{gives_one, nothing_more, one_given, range_back}
 use Rattle.cil_ranges.proofs.users.give_at.Goals as goal
 
@@ -11,13 +11,13 @@ returns-in_default-clause-given c = λ g items reads.
 
 pub give-requires-clause-ranges : goal.give-requires-clause-ranges
 give-requires-clause-ranges c =
-    let w = subst (IsUserWithin c.args.known.now) c.in-Some.is c.in_ok-giving.ensures.within in
+    let w = (subst (IsGivenThere c.args.known.now (item_at c.args.instances.now c.args.at)) c.in-Some.is c.in_ok-giving.ensures.there).within in
     let len = c.requires.room.of_ranges in
     omega (arith, w, len)
 
 pub give-requires-clause-differing : goal.give-requires-clause-differing
 give-requires-clause-differing c =
-    let w = subst (IsUserWithin c.args.known.now) c.in-Some.is c.in_ok-giving.ensures.within in
+    let w = (subst (IsGivenThere c.args.known.now (item_at c.args.instances.now c.args.at)) c.in-Some.is c.in_ok-giving.ensures.there).within in
     let len = c.requires.room.of_differing in
     omega (arith, w, len)
 

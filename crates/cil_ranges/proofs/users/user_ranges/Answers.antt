@@ -1,5 +1,4 @@
-use Rattle.std.specs.Prelude.{None}
-use Rattle.std.proofs.Common.{◌≡◌, ◌<◌, ◌∙◌, ap, arith, false, length}
+use Rattle.std.proofs.Common.{◌<◌, ◌∙◌, ap, arith, false, length}
 use Rattle.cil_macros.specs.Items.{item_at, items_in}
 use Rattle.cil_macros.proofs.ItemLemmas.{items_taken}
 use Rattle.cil_ranges.proofs.UserLemmas.{all_given, all_same, more_up_to, none_up_to, same_length}
@@ -10,11 +9,10 @@ loop-at-init c =
     let k = c.args.known.now in
     let count = ap length c.entries-count.ensures.value in
     let n = length c.entries-count.result.now in
-    let ranges = c.in_ok-vec.ensures.items_if_clones_equal (λ y h. h) in
-    let differing = c.in_ok-vec-2.ensures.items_if_clones_equal (λ y h. h) in
-    none_up_to k c.args.by.now (items_in c.args.instances.now) (record { ranges = c.in_ok-vec.field-0; differing = c.in_ok-vec-2.field-0 })
-    (record { of_ranges = same_length n None c.in_ok-vec.field-0.items ranges ∙ count; of_differing = same_length n false c.in_ok-vec-2.field-0.items differing ∙ count })
-    (all_same n None c.in_ok-vec.field-0.items ranges) (all_same n false c.in_ok-vec-2.field-0.items differing)
+    let differing = c.in_ok-vec.ensures.items_if_clones_equal (λ y h. h) in
+    none_up_to k c.args.by.now (items_in c.args.instances.now) (record { ranges = c.in_ok-no_ranges.field-0; differing = c.in_ok-vec.field-0 })
+    (record { of_ranges = c.in_ok-no_ranges.ensures.len ∙ count; of_differing = same_length n false c.in_ok-vec.field-0.items differing ∙ count })
+    c.in_ok-no_ranges.ensures.none (all_same n false c.in_ok-vec.field-0.items differing)
 
 pub give_at-requires-clause-room : goal.give_at-requires-clause-room
 give_at-requires-clause-room c = c.loop-at.invariant.room

@@ -1,4 +1,3 @@
-use Rattle.std.specs.Prelude.{take}
 use Rattle.cil_macros.specs.Items.{items_in}
 use Rattle.cil_ranges.proofs.UserLemmas.{AreGivenUpTo}
 use Rattle.cil_ranges.proofs.users.user_ranges.Given as goal

@@ -1,8 +1,5 @@
-use Rattle.std.proofs.Common.{sym, ◌∙◌, ap, subst}
-use Rattle.cil_syntax.specs.Terms.{Form}
+use Rattle.std.proofs.Common.{sym, ◌∙◌}
 use Rattle.cil_known.specs.Known.{enabled_in}
-use Rattle.cil_ranges.specs.LevelFaults.{TermFault}
-use Rattle.cil_ranges.specs.Reading.{HaveMore}
 use Rattle.cil_ranges.specs.Walked.{space_in}
 use Rattle.cil_ranges.proofs.WalkLemmas.{as_categories, as_level, as_levels, done, is_nothing, nothing_wrong}
 use Rattle.cil_ranges.proofs.walk.push_own.Goals as goal

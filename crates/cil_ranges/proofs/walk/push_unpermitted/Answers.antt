@@ -1,4 +1,4 @@
-use Rattle.std.proofs.Common.{◌≡◌, ◌++◌, ◌∷◌, [], ◌∙◌, ap, subst, sym, true}
+use Rattle.std.proofs.Common.{◌++◌, ◌∷◌, [], ◌∙◌, ap, subst, sym}
 use Rattle.cil_faults.specs.Reported.{fault_at}
 use Rattle.cil_faults.specs.declared.code.FaultCode.TheVariants as causes
 use Rattle.cil_syntax.specs.Scopes.{ScopedWord}
@@ -26,7 +26,7 @@ returns c =
     let (w, wrong) = c.if-not-is_unpermitted.ensures k g 0 f us o.words judges read in
     let there = c.in-Some.ensures (placed_in c.args.walk.now) at op w _ (named_second k f (placed_in c.args.walk.now) c.args.terms.now us c.args.ahead.now at op o w wrong.rest wrong.says) in
     let push = told ∙ ap (λ z. items ++ fault_at causes.LevelCategory c.in-Some.there.now.word.at (space_in c.args.walk.now) z ∷ []) c.as_slice.ensures
-        ∙ ap (λ (z : ScopedWord). items ++ fault_at causes.LevelCategory z.at (space_in c.args.walk.now) z.bytes ∷ []) there in
+    ∙ ap (λ (z : ScopedWord). items ++ fault_at causes.LevelCategory z.at (space_in c.args.walk.now) z.bytes ∷ []) there in
     let one = level_one (enabled_in k) g (space_in c.args.walk.now) items c.push_told.new.faults.items at us w wrong push in
     subst (λ z. HaveMore items c.push_told.new.faults.items (λ h. TermFault (enabled_in k) g (space_in c.args.walk.now) h (Form at z us))) (sym is) one)
     c.push_told.ensures
