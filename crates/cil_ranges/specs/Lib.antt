@@ -3,8 +3,10 @@ pub mod DeclaredEntries
 pub mod Given
 pub mod Inside
 pub mod LevelFaults
+pub mod Made
 pub mod Levels
 pub mod Named
 pub mod Reading
+pub mod Steps
 pub mod Users
 pub mod Walked

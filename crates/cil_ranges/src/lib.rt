@@ -6,6 +6,7 @@ mod check;
 mod declared;
 mod giving;
 mod level;
+mod levels;
 mod named;
 mod own;
 mod range;
@@ -19,6 +20,7 @@ mod walk;
 
 pub use check::push_level_faults;
 pub use level::{level_of, said_level};
+pub use levels::{Levels, levels_of};
 pub use named::{named_levels, named_ranges};
 pub use own::Judge;
 pub use range::{range_of, said_range};
