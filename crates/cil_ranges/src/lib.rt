@@ -1,5 +1,14 @@
 //! The levels and ranges that statements say, and what is wrong with them. The CIL Reference Guide has both in "Multi-Level Security
 //! Labeling Statements", as "level", "levelrange" and "userrange".
+//!
+//! Start at `levels_of`, in `levels.rt`: what sensitivities permit, what names of levels and ranges stand for and the ranges of users,
+//! or all that is wrong with levels (61 to 64). `specs/Steps.antt` says what is answered, `specs/Levels.antt` which level or range a term
+//! has, and `specs/LevelFaults.antt` and `specs/Users.antt` what is wrong. The parts: `scale.rt` has what levels are read by, `level.rt`
+//! and `range.rt` read those of terms, `named.rt` finds those of names and `users.rt` those of users. `own.rt` judges one list, `walk.rt`
+//! the lists of a statement, `check.rt` all statements and `user_faults.rt` the users.
+//!
+//! Not done here: the orders, which are those of cil_mls, sets of categories, which cil_levels makes, and contexts. No crate but those of
+//! tests calls this one yet.
 #![tactic(auto)]
 
 mod check;
