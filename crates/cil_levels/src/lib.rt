@@ -10,7 +10,7 @@
 //! statement says, and `making.rt` makes the sets. `laws.rt` says that the equations have one solution where no set depends on itself,
 //! and what names hold.
 //!
-//! Not done here: the orders, which are those of cil_mls, and levels. Only tests call this crate yet.
+//! Not done here: the orders, which are those of cil_mls, and levels, which are those of cil_ranges.
 #![tactic(auto)]
 
 mod beginning;

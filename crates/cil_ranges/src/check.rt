@@ -20,8 +20,8 @@ use std::alloc::Global;
 
 /// Adds what is wrong with the levels and ranges in what enabled statements say, the arguments of calls included: a level with a category
 /// that its sensitivity does not permit, and a range of levels or of categories that is turned. Of a named level or range it is told where
-/// it is declared. It costs a few steps for each term, and two evaluations of each expression. Error: out of memory, which is also the
-/// answer where a level has permissions of a class in it: there is none of these.
+/// it is declared. It costs a few steps for each term, and up to seven evaluations of each expression. Error: out of memory, which is also
+/// the answer where a level has permissions of a class in it: there is none of these.
 pub fn push_level_faults(
     alloc: Global,
     instances: &Instances,

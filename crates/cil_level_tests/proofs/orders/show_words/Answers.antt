@@ -6,7 +6,7 @@ use Rattle.cil_known.specs.Numbers.{ArePlainNames}
 use Rattle.cil_names.specs.PermissionWords.{meanings}
 use Rattle.cil_names.specs.Rows.{IsTableOf}
 use Rattle.cil_names.specs.Unresolved.{ArePermissions}
-use Rattle.cil_tests.proofs.level_orders.show_words.Goals as goal
+use Rattle.cil_level_tests.proofs.orders.show_words.Goals as goal
 
 pub show_looked_up-requires-clause-namespaces : goal.show_looked_up-requires-clause-namespaces
 show_looked_up-requires-clause-namespaces c = c.namespaces.ensures.value

@@ -3,6 +3,7 @@
 
 ghost use Rattle.std.specs.Prelude.{◌≡◌, ◌<◌, List, length, map};
 ghost use Rattle.cil_faults.specs.declared.fault.Fault.{Fault};
+ghost use Rattle.cil_names.specs.Faults.{ClashFault};
 ghost use Rattle.cil_mls.specs.OrderFaults.{AreOrders, OrderFault};
 ghost use Rattle.cil_syntax.specs.Program.{IsNested};
 ghost use Rattle.cil_blocks.specs.Places.{AreStandings, statements_in};
@@ -15,7 +16,8 @@ ghost use Rattle.cil_names.specs.PermissionWords.{meanings};
 ghost use Rattle.cil_names.specs.Rows.{IsTableOf};
 ghost use Rattle.cil_names.specs.Unresolved.{ArePermissions};
 
-use crate::growths::show_faults;
+use crate::ranges::show_levels;
+use crate::show_faults;
 use cil_base::{Bytes, NoMemory};
 use cil_blocks::{Spaces, inherit};
 use cil_declare::declare;
@@ -33,7 +35,7 @@ use std::test::Fail;
 
 /// A text, and what `orders` says of it: a line for each order with the names from the lowest on, and whether levels are on; or the
 /// faults. Then a line for each statement of a set of categories, and for each sensitivity with which categories may go: its name, and
-/// what `category_values` and `permitted` say of it.
+/// what `category_values` and `permitted` say of it. What is said of levels stands behind it.
 const ROWS: &[(&str, &str)] = &[
     // nothing is in one order, and so is one item
     ("(type t)", "\n\noff\n"),
@@ -144,6 +146,11 @@ const ROWS: &[(&str, &str)] = &[
         "(category c)(category d)(categoryorder (c d))(categoryset a (c))(categoryset b (a))(categoryset a (c))",
         "\nc d\noff\na: c\nb: c\na: c\n",
     ),
+    // a range that is turned is empty, and told when levels are
+    (
+        "(category a)(category b)(categoryorder (a b))(categoryset e (range b a))",
+        "\na b\noff\ne:\n62 0 60 . -\n",
+    ),
     // what may go with a sensitivity is what all statements permit it, by any of its names; with another one goes nothing
     (
         "(sensitivity s)(sensitivity t)(sensitivity u)(sensitivityorder (u t s))(sensitivityalias k)(sensitivityaliasactual k s)(category c)(category d)(category e)(categoryorder (c d e))(categoryset b (d e))(sensitivitycategory s (c))(sensitivitycategory u b)(sensitivitycategory k (e))",
@@ -173,7 +180,6 @@ const VALUES: &[(&str, &str)] = &[
     ("(not all)", ""),
     ("(range c1 c3)", " c1 c2 c3"),
     ("(range c2 c2)", " c2"),
-    ("(range c3 c1)", ""),
     ("(and (range c0 c2) (not (c1)))", " c0 c2"),
     ("(and all s)", " c2 c3"),
     ("(or (c0) s)", " c0 c2 c3"),
@@ -224,7 +230,7 @@ fn are_lines(alloc: Global, text: &str, want: &str) -> bool {
 }
 
 /// Adds the lines of some texts. False where they are no policy, or there is no memory.
-fn show_texts(alloc: Global, texts: &[&str], out: &mut String) -> bool {
+pub(crate) fn show_texts(alloc: Global, texts: &[&str], out: &mut String) -> bool {
     match set_of(alloc, texts) {
         Ok(modules) => show_modules(alloc, &modules, out),
         Err(_) => false,
@@ -276,6 +282,7 @@ fn show_named<'a>(
 ) -> bool
     requires entries { AreEntries (namespaces_in instances.now) (items_in instances.now) names.now }
     requires plain { ArePlainNames (namespaces_in instances.now) names.now }
+    requires clashes { (f : Fault) → ClashFault (items_in instances.now) f → ⊥ }
 {
     let Ok(shared) = commons_of(alloc, instances, names) else {
         return false;
@@ -296,6 +303,7 @@ fn show_by_names<'a>(
     requires entries { AreEntries (namespaces_in instances.now) (items_in instances.now) names.now }
     requires plain { ArePlainNames (namespaces_in instances.now) names.now }
     requires permissions { ArePermissions (namespaces_in instances.now) names.now (items_in instances.now) permissions.now }
+    requires clashes { (f : Fault) → ClashFault (items_in instances.now) f → ⊥ }
 {
     let enabled = OptSet::of(Vec::new(alloc));
     let Ok(asks) = asks_of(alloc, &*instances, &*names, permissions) else {
@@ -320,6 +328,7 @@ fn show_words(
     requires plain { ArePlainNames (namespaces_in instances.now) names.now }
     requires permissions { ArePermissions (namespaces_in instances.now) names.now (items_in instances.now) permissions.now }
     requires table { IsTableOf (map (meanings (namespaces_in instances.now) names.now permissions.now (is_in enabled.now)) (items_in instances.now)) words.now }
+    requires clashes { (f : Fault) → ClashFault (items_in instances.now) f → ⊥ }
 {
     let lookup = Lookup {
         namespaces: instances.namespaces(),
@@ -342,6 +351,7 @@ fn show_looked_up(
     requires permissions { ArePermissions lookup.now.namespaces.now lookup.now.names.now (items_in instances.now) permissions.now }
     requires plain { ArePlainNames lookup.now.namespaces.now lookup.now.names.now }
     requires table { IsTableOf (map (meanings lookup.now.namespaces.now lookup.now.names.now permissions.now (is_in lookup.now.enabled.now)) (items_in instances.now)) words.now }
+    requires clashes { (f : Fault) → ClashFault (items_in instances.now) f → ⊥ }
 {
     // What is known of the numbers of namespaces.
     lookup.namespaces.are_namespaces();
@@ -369,11 +379,13 @@ fn show_orders(
     requires table { IsTableOf (map (row_in known.now) (items_in instances.now)) known.now.words.now }
     requires known { IsKnown known.now (items_in instances.now) (names_of sections.now) }
     requires apart { AreApart known.now.lookup.names.now (enabled_in known.now) known.now.numbers.now }
+    requires clashes { (f : Fault) → ClashFault (items_in instances.now) f → ⊥ }
 {
     match orders(alloc, instances, known, sections) {
         Ok(orders) => {
             show_found(sections, &orders, out)
                 && show_values(alloc, instances, known, sections, &orders, out)
+                && show_levels(alloc, instances, known, sections, &orders, out)
         }
         Err(Failure::Faults(faults)) => show_faults(alloc, &faults, out),
         Err(Failure::NoMemory) => false,
@@ -552,7 +564,7 @@ fn show_names(names: &[Bytes], row: &[usize], out: &mut String) -> bool {
     out.push_str("\n").is_ok()
 }
 
-fn show_name(names: &[Bytes], number: usize, out: &mut String) -> bool {
+pub(crate) fn show_name(names: &[Bytes], number: usize, out: &mut String) -> bool {
     match names.get(number) {
         Some(name) => str::from_utf8(name.as_slice()).is_ok_and(|text| out.push_str(text).is_ok()),
         None => false,
@@ -566,10 +578,10 @@ fn statements_fix_one_order_or_none(rt: HostRuntime) {
     }
 }
 
-/// Both orders, with an alias and a set in a set.
+/// Both orders, with an alias, a set in a set, and a range of a user.
 const REFUSED: (&str, &str) = (
-    "(mls true)(sensitivity s)(sensitivity t)(sensitivityalias k)(sensitivityaliasactual k t)(sensitivityorder (k s))(category c)(category d)(categoryorder (c d))(categoryset a (c))(categoryset b (a d))",
-    "t s\nc d\non\na: c\nb: c d\n",
+    "(mls true)(sensitivity s)(sensitivity t)(sensitivityalias k)(sensitivityaliasactual k t)(sensitivityorder (k s))(category c)(category d)(categoryorder (c d))(categoryset a (c))(categoryset b (a d))(sensitivitycategory s b)(level l (s (c)))(levelrange r ((k) l))(user u)(userrange u r)",
+    "t s\nc d\non\na: c\nb: c d\ns: c d\nl: s c\nr: t - s c\nu: t - s c\n",
 );
 
 #[test]

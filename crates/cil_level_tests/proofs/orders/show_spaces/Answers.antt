@@ -1,7 +1,7 @@
 use Rattle.cil_macros.specs.Items.{items_in, namespaces_in}
 use Rattle.cil_tables.proofs.CompileLemmas.{its_names}
 use Rattle.cil_tables.proofs.PlainLemmas.{plain_names}
-use Rattle.cil_tests.proofs.level_orders.show_spaces.Goals as goal
+use Rattle.cil_level_tests.proofs.orders.show_spaces.Goals as goal
 
 pub show_placed-requires : goal.show_placed-requires
 show_placed-requires c = λ es entries.

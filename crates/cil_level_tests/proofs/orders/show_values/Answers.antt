@@ -3,7 +3,7 @@ use Rattle.cil_macros.specs.Items.{items_in}
 use Rattle.cil_known.specs.Known.{enabled_in}
 use Rattle.cil_levels.specs.Held.{HoldValues}
 use Rattle.cil_mls.specs.OrderFaults.{AreOrders}
-use Rattle.cil_tests.proofs.level_orders.show_values.Goals as goal
+use Rattle.cil_level_tests.proofs.orders.show_values.Goals as goal
 
 pub permitted-requires-clause-held : goal.permitted-requires-clause-held
 permitted-requires-clause-held c =

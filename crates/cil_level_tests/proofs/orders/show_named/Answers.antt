@@ -2,7 +2,7 @@ use Rattle.std.proofs.Common.{subst, sym}
 use Rattle.cil_macros.specs.Items.{items_in, namespaces_in}
 use Rattle.cil_names.specs.Shared.{AreShared}
 use Rattle.cil_names.specs.Unresolved.{ArePermissions}
-use Rattle.cil_tests.proofs.level_orders.show_named.Goals as goal
+use Rattle.cil_level_tests.proofs.orders.show_named.Goals as goal
 
 pub permissions_of-requires-clause-shared : goal.permissions_of-requires-clause-shared
 permissions_of-requires-clause-shared c =

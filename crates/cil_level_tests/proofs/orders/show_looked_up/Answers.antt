@@ -3,7 +3,7 @@ use Rattle.cil_macros.specs.Items.{items_in}
 use Rattle.cil_names.specs.Entries.{is_in}
 use Rattle.cil_known.specs.Known.{AreKnown}
 use Rattle.cil_known.specs.Numbers.{AreApart, AreNumbers, names_of}
-use Rattle.cil_tests.proofs.level_orders.show_looked_up.Goals as goal
+use Rattle.cil_level_tests.proofs.orders.show_looked_up.Goals as goal
 
 pub show_orders-requires-clause-namespaces : goal.show_orders-requires-clause-namespaces
 show_orders-requires-clause-namespaces c = c.requires.namespaces

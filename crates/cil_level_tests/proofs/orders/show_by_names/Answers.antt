@@ -1,5 +1,5 @@
 use Rattle.cil_macros.specs.Items.{items_in, namespaces_in}
-use Rattle.cil_tests.proofs.level_orders.show_by_names.Goals as goal
+use Rattle.cil_level_tests.proofs.orders.show_by_names.Goals as goal
 
 pub show_words-requires-clause-table : goal.show_words-requires-clause-table
 show_words-requires-clause-table c =

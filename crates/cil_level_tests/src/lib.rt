@@ -1,0 +1,22 @@
+//! The tests of the crates of levels: the orders of sensitivities and of categories, sets of categories, levels and ranges. A host refuses
+//! their statements by name, so no session shows them. Expected values come from the rules of the language, never from this program.
+#![tactic(auto)]
+
+#[cfg(test)]
+mod orders;
+#[cfg(test)]
+mod ranges;
+
+#[cfg(test)]
+use cil_syntax::{FaultList, render};
+#[cfg(test)]
+use std::alloc::Global;
+
+/// Adds the lines of faults. False where there is no memory.
+#[cfg(test)]
+fn show_faults(alloc: Global, faults: &FaultList, out: &mut String) -> bool {
+    let Ok(lines) = render(alloc, faults) else {
+        return false;
+    };
+    str::from_utf8(lines.as_slice()).is_ok_and(|text| out.push_str(text).is_ok())
+}
