@@ -2,6 +2,8 @@
 //! their statements by name, so no session shows them. Expected values come from the rules of the language, never from this program.
 #![tactic(auto)]
 
+ghost use Rattle.std.specs.Prelude.{◌≡◌, None, get_or};
+
 #[cfg(test)]
 mod orders;
 #[cfg(test)]
@@ -19,4 +21,14 @@ fn show_faults(alloc: Global, faults: &FaultList, out: &mut String) -> bool {
         return false;
     };
     str::from_utf8(lines.as_slice()).is_ok_and(|text| out.push_str(text).is_ok())
+}
+
+/// What a table has for the entry with a number; none too where the table has no such place.
+pub fn there<T: Copy>(table: &[Option<T>], number: usize) -> Option<T>
+    ensures { result ≡ get_or table.now number None }
+{
+    match table.get(number) {
+        Some(found) => *found,
+        None => None,
+    }
 }

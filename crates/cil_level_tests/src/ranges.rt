@@ -10,7 +10,7 @@ ghost use Rattle.cil_known.specs.Known.{IsKnown, enabled_in, row_in};
 ghost use Rattle.cil_known.specs.Numbers.{AreApart, names_of};
 
 use crate::orders::{show_name, show_texts};
-use crate::show_faults;
+use crate::{show_faults, there};
 use cil_base::Bytes;
 use cil_known::{Known, Sections};
 use cil_macros::Instances;
@@ -183,14 +183,6 @@ fn show_entry(
         return true;
     };
     show_line(entry, &range.low, Some(range.high), sections, orders, out)
-}
-
-/// What a table has for an entry.
-fn there<T: Copy>(table: &[Option<T>], number: usize) -> Option<T> {
-    match table.get(number) {
-        Some(there) => *there,
-        None => None,
-    }
 }
 
 fn show_line(
