@@ -9,7 +9,7 @@ use Rattle.std.proofs.lemmas.Option.{same_Some}
 use Rattle.cil_base.specs.Places.{get_at, in_range}
 use Rattle.cil_base.specs.Searches.{any_from, any_true}
 use Rattle.cil_settle.specs.declared.edge.Edge.{Edge}
-use Rattle.cil_settle.specs.Cycles.{Leads}
+use Rattle.cil_settle.specs.Cycles.{Fall, Leads}
 use Rattle.cil_faults.specs.declared.spot.Spot.{Spot}
 use Rattle.cil_syntax.specs.declared.kind.Kind.{Kind}
 use Rattle.cil_syntax.specs.declared.kind.Kind.TheVariants as kinds
@@ -46,7 +46,7 @@ use Rattle.cil_levels.specs.Begun.{AreBegun, IsBegun}
 use Rattle.cil_levels.specs.Held.{AreHeld, HoldCategories, HoldValues}
 use Rattle.cil_levels.specs.Made.{AreDefined, AreMade, IsKept, held_at, in_second, is_made_by, says_of}
 use Rattle.cil_levels.specs.Places.{IsBetween, IsCategoryAt, IsInSpan}
-use Rattle.cil_levels.specs.Values.{IsGiven, NamesSetWith, Values, in_value}
+use Rattle.cil_levels.specs.Values.{IsGiven, IsRanked, NamesSetWith, Values, in_value}
 use Rattle.cil_levels.proofs.MakingLemmas.{set_within as first_within}
 use Rattle.cil_levels.proofs.TermLemmas.{same_in}
 
@@ -168,6 +168,10 @@ module _ (es : List Entry) (standing : List (List ℕ)) (places : List ℕ) (d :
 abbrev pub set_place : Known → Symbol → Option ℕ
 set_place k a = place_where (λ (e : Entry). is_set e && is_same_symbol (symbol_of k.lookup.namespaces.now e) a) k.lookup.names.now
 
+-- the rank of a set is that of its number
+abbrev pub rank_by : Known → List ℕ → Symbol → ℕ
+rank_by k ranks a = option_map_or (λ d. get_or ranks d 0) (set_place k a) 0
+
 -- what is held, of the categories that there may be
 abbrev pub holds_as : List Held → Option ℕ → ℕ → Bool
 holds_as helds r c = ltb c 1024 && is_held c (meant_held helds r)
@@ -205,6 +209,22 @@ module _ (k : Known) (i : Kept) (sections : Kind → List (List ℕ)) (known : I
         absurd (none_where (λ (x : Entry). is_set x && is_same_symbol (symbol_of k.lookup.namespaces.now x) a) k.lookup.names.now e d is.entry is.at
         (pair (is_set is.entry) (is_same_symbol (symbol_of k.lookup.namespaces.now is.entry) a) (ap is_set_kind is.of_kind) (ap (λ z. is_same_symbol z a) is.symbol ∙ same_self a)))
     by (Some b) e = e ∙ ap Some (one_place k xs sections known law edges lead b d a (place_set a b e) is)
+
+  -- ---- ranks
+
+  rank_is : (ranks : List ℕ) (d : ℕ) (a : Symbol) → IsSetOf d a → rank_by k ranks a ≡ get_or ranks d 0
+  rank_is ranks d a is = ap (λ r. option_map_or (λ b. get_or ranks b 0) r 0) (set_has_place a d is)
+
+  -- they fall, as those of numbers do along edges
+  ranked : (ranks : List ℕ) → Fall edges ranks → IsRanked xs (enabled_in k) (rank_by k ranks)
+  ranked ranks fall a b n =
+      let (d, entry) = its_entry xs (enabled_in k) kinds.CategorySet n.item n.at n.name n.declares k.lookup.namespaces.now k.lookup.names.now known.entries in
+      let (e, means, at_e, of_sets) = named_set k xs sections known law edges lead n.word b n.names_b in
+      let declares : DeclaresSet k xs n.item d = record { at = n.at; name = n.name; declares = n.declares; entry = entry } in
+      let falls = fall d e ((lead d e).1 (n.item, n.declares.is_item, record { declares = declares; word = n.word; within = n.within; means = means; of_sets = of_sets })) in
+      let high = rank_is ranks d a (subst (IsSetOf d) n.is_a entry) in
+      let low = rank_is ranks e b at_e in
+      omega (arith, falls, high, low)
 
   -- ---- expressions
 
@@ -342,11 +362,13 @@ module _ (k : Known) (i : Kept) (sections : Kind → List (List ℕ)) (known : I
     ],
   )
 
-  pub are_held : All IsFew helds → HoldValues k xs row helds
-  are_held are_few = (
+  pub are_held : (ranks : List ℕ) → Fall edges ranks → All IsFew helds → HoldValues k xs row helds
+  are_held ranks fall are_few = (
     v,
     record {
       are = record { words = words_are; spans = span_is k xs row helds hold; sets = sets_are };
+      rank = rank_by k ranks;
+      ranked = ranked ranks fall;
       count = few;
       few = are_few;
       categories = hold;

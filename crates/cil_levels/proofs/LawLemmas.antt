@@ -8,8 +8,7 @@ use Rattle.cil_syntax.specs.Terms.{Term, Terms}
 use Rattle.cil_macros.specs.Item.{Item, OptSet, all_words_in, words_in}
 use Rattle.cil_names.specs.Declarations.{Symbol}
 use Rattle.cil_known.specs.Spaces.{names}
-use Rattle.cil_levels.specs.Laws.{IsRanked}
-use Rattle.cil_levels.specs.Values.{AreValues, IsGiven, Values, in_value}
+use Rattle.cil_levels.specs.Values.{AreValues, IsGiven, IsRanked, Values, in_value}
 use Rattle.cil_levels.proofs.TermLemmas.{same_in}
 
 same_tests : (a b : Bool) → (a ≡ true → b ≡ true) → (b ≡ true → a ≡ true) → a ≡ b
@@ -34,11 +33,13 @@ module _ (xs : List Item) (s : OptSet) (row : List Symbol) where
     abbrev Alike : ScopedWord → Type 0
     Alike w = (b : Symbol) → names xs s kinds.CategorySet w b ≡ true → v.sets b c ≡ u.sets b c
 
+    same_word : (w : ScopedWord) → Alike w → v.has w c ≡ u.has w c
+    same_word w same =
+        same_tests (v.has w c) (u.has w c) (word_there v u of_v of_u c w (λ b n t. sym (same b n) ∙ t)) (word_there u v of_u of_v c w (λ b n t. same b n ∙ t))
+
     same_value : (e : Term ScopedWord) → ((w : ScopedWord) → Contains (words_in e) w → Alike w) → in_value row v e c ≡ in_value row u e c
     same_value e alike =
-        same_in Alike (λ w. v.has w c) (λ w. u.has w c) (ltb c (length row)) (λ ts. v.span ts c) (λ ts. u.span ts c)
-        (λ w same. same_tests (v.has w c) (u.has w c) (word_there v u of_v of_u c w (λ b n t. sym (same b n) ∙ t)) (word_there u v of_u of_v c w (λ b n t. same b n ∙ t)))
-        (λ ts h. same_span v u of_v of_u c ts) e alike
+        same_in Alike (λ w. v.has w c) (λ w. u.has w c) (ltb c (length row)) (λ ts. v.span ts c) (λ ts. u.span ts c) same_word (λ ts h. same_span v u of_v of_u c ts) e alike
 
   module _ (rank : Symbol → ℕ) (ranked : IsRanked xs s rank) where
     -- what one declaration says is the same where the sets that it names have the same categories
@@ -69,3 +70,12 @@ module _ (xs : List Item) (s : OptSet) (row : List Symbol) where
 
       pub one_value : (e : Term ScopedWord) → in_value row v e c ≡ in_value row u e c
       one_value e = same_value v u of_v of_u c e (λ w within b n. same_sets (suc (rank b)) b (omega arith))
+
+    -- the values are equal, at each category of each word, range and set
+    pub one_values : (v u : Values) → AreValues xs s row v → AreValues xs s row u → v ≡ u
+    one_values v u of_v of_u = λ i. record { has = λ w c. words w c i; span = λ ts c. same_span v u of_v of_u c ts i; sets = λ a c. sets a c i } where
+      sets : (a : Symbol) (c : ℕ) → v.sets a c ≡ u.sets a c
+      sets a c = same_sets v u of_v of_u c (suc (rank a)) a (omega arith)
+
+      words : (w : ScopedWord) (c : ℕ) → v.has w c ≡ u.has w c
+      words w c = same_word v u of_v of_u c w (λ b n. sets b c)

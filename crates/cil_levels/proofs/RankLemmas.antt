@@ -1,5 +1,5 @@
 -- Where no set depends on itself, declarations sorted by ranks name only what is made before.
-use Rattle.std.proofs.Common.{◌≡◌, ◌↔◌, ℕ, ◌<◌, true, false, List, get_or, length, refl, sym, ◌∙◌, ap, arith}
+use Rattle.std.proofs.Common.{◌≡◌, ◌↔◌, ℕ, ◌<◌, true, false, List, get_or, length, refl, sym, ◌∙◌, ap, subst, arith}
 use Rattle.std.specs.Prelude.{Contains, IsPermutation}
 use Rattle.std.specs.List.Sorted.{IsNonDecreasingBy}
 use Rattle.std.specs.Option.{option_map_or}
@@ -43,6 +43,10 @@ module _ (k : Known) (xs : List Item) (sections : Kind → List (List ℕ)) (kno
       let a = symbol_under x d.name in
       none (fault_at causes.SetCycle d.at x.space d.name)
       (record { item = x; at = d.at; name = d.name; declares = d.declares; depends = depends k xs sections known law edges lead v v a a d.entry d.entry r; told = refl })
+
+  -- so ranks fall that do where there is no cycle
+  pub falls : (ranks : List ℕ) (handed : List Edge) → handed ≡ edges → (HasNoCycle handed → Fall handed ranks) → Fall edges ranks
+  falls ranks handed same fall = subst (λ (l : List Edge). HasNoCycle l → Fall l ranks) same fall no_cycle
 
 module _ (k : Known) (i : Kept) (n : ℕ) (all : List Definition) (are : AreDefined k i n all) (edges : List Edge) (lead : (a b : ℕ) → Leads edges a b ↔ IsSetEdgeIn k (items_in i) a b) (ranks : List ℕ) (fall : Fall edges ranks) where
   -- a declared set has the entry of a set

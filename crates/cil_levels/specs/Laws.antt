@@ -6,21 +6,20 @@ use Rattle.cil_macros.specs.Item.{Item, OptSet}
 use Rattle.cil_names.specs.Declarations.{Symbol}
 use Rattle.cil_known.specs.declared.known.Known.{Known}
 use Rattle.cil_known.specs.Known.{enabled_in, meant_in}
-use Rattle.cil_mls.specs.CategorySets.{NamesSet}
 use Rattle.cil_mls.specs.declared.expression.Held.{Held}
 use Rattle.cil_mls.specs.Values.{in_term}
 use Rattle.cil_levels.specs.Held.{AreHeld, HoldCategories}
 use Rattle.cil_levels.specs.Places.{IsCategoryAt}
-use Rattle.cil_levels.specs.Values.{AreValues, Values, in_value}
-
--- ranks fall from each set to those that its declarations name, so none depends on itself
-abbrev pub IsRanked : List Item → OptSet → (Symbol → ℕ) → Type 0
-IsRanked xs s rank = (a b : Symbol) → NamesSet xs s a b → rank b < rank a
+use Rattle.cil_levels.specs.Values.{AreValues, IsRanked, Values, in_value}
 
 -- where ranks fall, expressions have one value: the equations fix it
 abbrev pub HasOneValue : Type 0
 HasOneValue = (xs : List Item) (s : OptSet) (row : List Symbol) (rank : Symbol → ℕ) → IsRanked xs s rank → (v u : Values) → AreValues xs s row v → AreValues xs s row u
     → (e : Term ScopedWord) (c : ℕ) → in_value row v e c ≡ in_value row u e c
+
+-- where ranks fall, the equations have one solution
+abbrev pub HasOneSolution : Type 0
+HasOneSolution = (xs : List Item) (s : OptSet) (row : List Symbol) (rank : Symbol → ℕ) → IsRanked xs s rank → (v u : Values) → AreValues xs s row v → AreValues xs s row u → v ≡ u
 
 -- where names hold categories as such just where words stand for them, a word stands for one category at most
 abbrev pub HasOnePlace : Type 0

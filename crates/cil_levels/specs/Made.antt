@@ -2,7 +2,7 @@
 use Rattle.std.specs.Prelude.{◌≡◌, ◌↔◌, ℕ, ◌<◌, ◌≤◌, Bool, false, ◌&&◌, ◌||◌, ◌==◌, List, Contains, Option, Some, get_or, length, slice_get}
 use Rattle.std.specs.List.{list_any}
 use Rattle.cil_settle.specs.declared.edge.Edge.{Edge}
-use Rattle.cil_settle.specs.Cycles.{Leads}
+use Rattle.cil_settle.specs.Cycles.{Fall, Leads}
 use Rattle.cil_syntax.specs.declared.kind.Kind.TheVariants as kinds
 use Rattle.cil_syntax.specs.Scopes.{ScopedWord}
 use Rattle.cil_syntax.specs.Table.{entry_of}
@@ -88,10 +88,12 @@ module _ (k : Known) (i : Kept) where
     pub kept : (d : ℕ) → IsKept (get_or first d Nothing) (get_or helds d Nothing)
     pub made : (d c : ℕ) → c < 1024 → held_at helds d c ≡ (held_at first d c || list_any (is_made_by helds count d c) all)
 
-  -- the sets have what all their declarations say
+  -- the sets have what all their declarations say, and ranks fall from each to those that it names
   pub record AreSetsMade (count : ℕ) (first helds : List Held) : Type 0 where
     pub all : List Definition
     pub defined : AreDefined (length (items_in i)) all
     pub made : AreMade count first all helds
     pub edges : List Edge
     pub lead : (a b : ℕ) → Leads edges a b ↔ IsSetEdgeIn k (items_in i) a b
+    pub ranks : List ℕ
+    pub fall : Fall edges ranks

@@ -1,6 +1,6 @@
 -- What the words and set expressions of categories hold, and what sets of categories have: all sets at once, as what solves one
 -- equation for each. CIL Reference Guide, "categoryset" and "Expressions"; the equations are this project's form.
-use Rattle.std.specs.Prelude.{◌≡◌, ◌↔◌, ◌⊎◌, ℕ, Bool, true, ltb, List, length}
+use Rattle.std.specs.Prelude.{◌≡◌, ◌↔◌, ◌⊎◌, ◌<◌, ℕ, Bool, true, ltb, List, length}
 use Rattle.cil_faults.specs.declared.spot.Spot.{Spot}
 use Rattle.cil_syntax.specs.declared.kind.Kind.TheVariants as kinds
 use Rattle.cil_syntax.specs.Expressions.{is_in}
@@ -10,6 +10,7 @@ use Rattle.cil_macros.specs.Item.{Item, OptSet}
 use Rattle.cil_names.specs.Declarations.{Symbol}
 use Rattle.cil_known.specs.Spaces.{names}
 use Rattle.cil_attrs.specs.SetFaults.{DeclaresAt, symbol_under}
+use Rattle.cil_mls.specs.CategorySets.{NamesSet}
 use Rattle.cil_levels.specs.Places.{IsCategoryAt, IsInSpan}
 
 -- which categories, by their places, each word holds, each range, and each set
@@ -46,3 +47,7 @@ module _ (xs : List Item) (s : OptSet) (row : List Symbol) (v : Values) where
     pub words : (w : ScopedWord) (c : ℕ) → (v.has w c ≡ true) ↔ (IsCategoryAt xs s row w c ⊎ NamesSetWith w c)
     pub spans : (ts : Terms ScopedWord) (c : ℕ) → (v.span ts c ≡ true) ↔ IsInSpan xs s row ts c
     pub sets : (a : Symbol) (c : ℕ) → (v.sets a c ≡ true) ↔ IsGiven a c
+
+-- ranks fall from each set to those that its declarations name, so none depends on itself
+abbrev pub IsRanked : List Item → OptSet → (Symbol → ℕ) → Type 0
+IsRanked xs s rank = (a b : Symbol) → NamesSet xs s a b → rank b < rank a

@@ -23,6 +23,7 @@ mod permits;
 mod sensitivities;
 mod values;
 
+pub use inverse::{inverse_of, place_at};
 pub use permits::permitted;
 pub use sensitivities::sensitivity_places;
 pub use values::category_values;

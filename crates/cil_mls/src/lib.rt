@@ -45,4 +45,5 @@ pub use level_names::{LevelNames, MOST_SENSITIVITIES};
 pub use named::Named;
 pub use order::order_of;
 pub use ordered::orders;
+pub use parts::{Parts, parted};
 pub use switch::is_switched;

@@ -2,6 +2,7 @@ pub mod AlikeLemmas
 pub mod BehindLemmas
 pub mod CheckLemmas
 pub mod DeclaredLemmas
+pub mod GroundLemmas
 pub mod MadeLemmas
 pub mod NamedLemmas
 pub mod OwnLemmas

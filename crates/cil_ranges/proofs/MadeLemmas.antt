@@ -53,7 +53,7 @@ module _ (k : Known) (xs : List Item) (sensitivities categories : List (List ℕ
   ground = record { items = xs; sensitivities = o.of_sensitivities.row; categories = o.of_categories.row; values = are.values }
 
   pub is_ground : IsGround xs (enabled_in k) ground
-  is_ground = record { items = refl; sensitivities = o.of_sensitivities.is_order; categories = o.of_categories.is_order; values = are.held.are }
+  is_ground = record { items = refl; sensitivities = o.of_sensitivities.is_order; categories = o.of_categories.is_order; values = are.held.are; ranked = (are.held.rank, are.held.ranked) }
 
   pub measured_as : AreEvaluated → (count : ℕ) → count ≡ length o.of_categories.row → MeasuresAs k m count ground
   measured_as evaluated count is = record {

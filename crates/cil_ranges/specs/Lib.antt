@@ -2,6 +2,7 @@ pub mod Checked
 pub mod DeclaredEntries
 pub mod Given
 pub mod Inside
+pub mod Laws
 pub mod LevelFaults
 pub mod Made
 pub mod Levels

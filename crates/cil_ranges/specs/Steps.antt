@@ -4,12 +4,13 @@ use Rattle.cil_faults.specs.declared.fault.Fault.{Fault}
 use Rattle.cil_syntax.specs.declared.kind.Keyword.TheVariants as keywords
 use Rattle.cil_syntax.specs.declared.kind.Kind.TheVariants as kinds
 use Rattle.cil_macros.specs.Item.{Item, OptSet}
+use Rattle.cil_names.specs.Declarations.{Symbol}
 use Rattle.cil_known.specs.declared.known.Known.{Known}
 use Rattle.cil_known.specs.Known.{enabled_in}
 use Rattle.cil_mls.specs.Ordering.{IsTheOrder}
 use Rattle.cil_mls.specs.declared.level.Range.{Range}
 use Rattle.cil_levels.specs.Permitted.{ArePermitted}
-use Rattle.cil_levels.specs.Values.{AreValues}
+use Rattle.cil_levels.specs.Values.{AreValues, IsRanked}
 use Rattle.cil_ranges.specs.declared.levels.Levels.{Levels}
 use Rattle.cil_ranges.specs.Given.{GivesTo}
 use Rattle.cil_ranges.specs.LevelFaults.{IsFaultSaid}
@@ -17,12 +18,14 @@ use Rattle.cil_ranges.specs.Levels.{Ground}
 use Rattle.cil_ranges.specs.Reading.{HasLevels, HasRanges}
 use Rattle.cil_ranges.specs.Users.{HasNoRange, HasTwoRanges, IsSameRange}
 
--- these are the statements, their one order of sensitivities and of categories, and what their words and sets of categories have
+-- these are the statements, their one order of sensitivities and of categories, and what their words and sets of categories have; no set
+-- depends on itself, which ranks show, so there is one such ground alone
 pub record IsGround (xs : List Item) (s : OptSet) (g : Ground) : Type 0 where
   pub items : g.items ≡ xs
   pub sensitivities : IsTheOrder xs s kinds.Sensitivity keywords.SensitivityOrder g.sensitivities
   pub categories : IsTheOrder xs s kinds.Category keywords.CategoryOrder g.categories
   pub values : AreValues xs s g.categories g.values
+  pub ranked : (rank : Symbol → ℕ) × IsRanked xs s rank
 
 -- all that is wrong with levels
 pub data LevelFault (s : OptSet) (g : Ground) (f : Fault) : Type 0 where

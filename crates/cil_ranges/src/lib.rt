@@ -5,15 +5,16 @@
 //! or all that is wrong with levels (61 to 64). `specs/Steps.antt` says what is answered, `specs/Levels.antt` which level or range a term
 //! has, and `specs/LevelFaults.antt` and `specs/Users.antt` what is wrong. The parts: `scale.rt` has what levels are read by, `level.rt`
 //! and `range.rt` read those of terms, `named.rt` finds those of names and `users.rt` those of users. `own.rt` judges one list, `walk.rt`
-//! the lists of a statement, `check.rt` all statements and `user_faults.rt` the users.
+//! the lists of a statement, `check.rt` all statements and `user_faults.rt` the users. `laws.rt` says that levels rest on one ground alone.
 //!
-//! Not done here: the orders, which are those of cil_mls, sets of categories, which cil_levels makes, and contexts. No crate but those of
-//! tests calls this one yet.
+//! Not done here: the orders, which are those of cil_mls, sets of categories, which cil_levels makes, and what tables hold of levels,
+//! which is that of cil_level_rows.
 #![tactic(auto)]
 
 mod check;
 mod declared;
 mod giving;
+pub mod laws;
 mod level;
 mod levels;
 mod named;

@@ -42,5 +42,5 @@ returns c = λ o.
     let len : length c.as_slice-order.result.now ≡ length order.row = ap length c.as_slice-order.ensures.value ∙ order.len in
     let made : AreSetsMade k i (length order.row) c.in_ok-first.first.items c.in_ok-helds.helds.items = subst (λ n. AreSetsMade k i n c.in_ok-first.first.items c.in_ok-helds.helds.items) len c.in_ok-helds.ensures.made in
     let count = c.in_ok-first.ensures.count in
-    are_held k i sections c.requires.known law made.edges made.lead order.row (omega (arith, count, len)) begun.standing begun.places c.in_ok-first.first.items begun.begun hold made.all made.defined c.in_ok-helds.helds.items made.made
+    are_held k i sections c.requires.known law made.edges made.lead order.row (omega (arith, count, len)) begun.standing begun.places c.in_ok-first.first.items begun.begun hold made.all made.defined c.in_ok-helds.helds.items made.made made.ranks made.fall
     c.in_ok-helds.ensures.few
