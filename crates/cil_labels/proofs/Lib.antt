@@ -1,0 +1,4 @@
+pub mod IndexLemmas
+pub mod LabelLemmas
+pub mod RowLemmas
+pub mod SoundLemmas

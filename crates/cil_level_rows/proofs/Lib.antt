@@ -1,0 +1,9 @@
+pub mod AliasLemmas
+pub mod AlikeLaws
+pub mod ApartLemmas
+pub mod KeptLemmas
+pub mod KeywordLemmas
+pub mod NoLevels
+pub mod OneFaultLemmas
+pub mod OneTableLaws
+pub mod TableLemmas
