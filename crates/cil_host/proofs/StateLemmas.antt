@@ -1,13 +1,18 @@
 -- The model host after a load, and after a boolean was set.
-use Rattle.std.specs.Prelude.{◌↔◌, Bool, Option, Some, Ok}
+use Rattle.std.specs.Prelude.{◌↔◌, Bool, Option, Some, Result, Ok, Err}
+use Rattle.std.specs.Result.{IsErrAnd}
 use Rattle.std.specs.Option.{option_map}
 use Rattle.std.proofs.Common.{◌≡◌, ℕ, List, refl, sym, ◌∙◌, ap, subst}
 use Rattle.cil_base.specs.Lists.{Lists, text_cmp}
 use Rattle.cil_conditions.specs.Bits.{IsOn, is_on}
+use Rattle.cil_faults.specs.declared.failure.Failure.{Failure}
+use Rattle.cil_faults.specs.declared.failure.Failure.TheVariants.{NoMemory}
 use Rattle.cil_tables.specs.CompileAnswer.{IsCompiled}
+use Rattle.cil_tables.specs.CompileRefusal.{CompileFails}
 use Rattle.cil_tables.specs.Table.{boolean_names}
 use Rattle.cil_tables.specs.declared.compiler.Compiled.{Compiled}
 use Rattle.cil_decide.specs.Decides.{IsOnAtFirst}
+use Rattle.cil_host.specs.declared.host.Loaded.{Loaded}
 use Rattle.cil_host.specs.declared.host.Policy.{Policy}
 use Rattle.cil_host.specs.Machine.{CanLoad, State, accepted_of, same_state}
 use Rattle.cil_host.specs.Refusal.{Loads, no_bytes}
@@ -44,3 +49,8 @@ module _ (h : State) (m : List (List ℕ)) (v w : List ℕ) (o : Option Policy) 
         refl,
         same_state _ _ (sym modules_are) (ap (λ z. Some (record { modules = z; reasons = c.why.items; on = on })) (same ∙ sym modules_are)),
       )
+
+-- where memory ran out, nothing has changed
+pub no_load : (h : State) (r : Result Loaded Failure) → IsErrAnd r (λ e. e ≡ NoMemory) → Loads h h r
+no_load h (Ok loaded) is = absurd is
+no_load h (Err failure) is = (subst (CompileFails h.modules) (sym is) tt, refl)

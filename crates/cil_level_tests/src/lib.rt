@@ -1,5 +1,5 @@
-//! The tests of the crates of levels: the orders of sensitivities and of categories, sets of categories, levels and ranges. A host refuses
-//! their statements by name, so no session shows them. Expected values come from the rules of the language, never from this program.
+//! The tests of the crates of levels: the orders of sensitivities and of categories, sets of categories, levels and ranges. A session shows
+//! only the faults and the decisions that they lead to. Expected values come from the rules of the language, never from this program.
 #![tactic(auto)]
 
 ghost use Rattle.std.specs.Prelude.{◌≡◌, None, get_or};

@@ -1,5 +1,4 @@
-//! The orders of sensitivities and of categories, and whether levels are on. A host refuses their statements by name, so no session
-//! shows them.
+//! The orders of sensitivities and of categories, and whether levels are on. A session shows no order, only what follows from one.
 
 ghost use Rattle.std.specs.Prelude.{◌≡◌, ◌<◌, List, length, map};
 ghost use Rattle.cil_faults.specs.declared.fault.Fault.{Fault};
@@ -27,7 +26,7 @@ use cil_macros::{Instances, expand};
 use cil_mls::{Categories, Held, MOST_CATEGORIES, Orders, orders};
 use cil_modset::ModuleSet;
 use cil_names::{Entry, Lookup, Names, OptSet, Words, commons_of, permissions_of};
-use cil_syntax::{Failure, Keyword, Kind, Program, all_written};
+use cil_syntax::{Failure, Keyword, Kind, Program, written};
 use cil_text_tests::set_of;
 use cil_words::{asks_of, settled};
 use std::alloc::Global;
@@ -238,7 +237,7 @@ pub(crate) fn show_texts(alloc: Global, texts: &[&str], out: &mut String) -> boo
 }
 
 fn show_modules(alloc: Global, modules: &ModuleSet, out: &mut String) -> bool {
-    match all_written(alloc, modules) {
+    match written(alloc, modules) {
         Ok(program) => show_program(alloc, &program, out),
         Err(_) => false,
     }

@@ -9,7 +9,7 @@ use cil_declare::declare;
 use cil_macros::{Instances, expand};
 use cil_modset::ModuleSet;
 use cil_names::{Names, commons_of, permissions_of};
-use cil_syntax::{Bytes, FaultList, Program, all_written, render};
+use cil_syntax::{Bytes, FaultList, Program, render, written};
 use cil_text_tests::set_of;
 use std::alloc::Global;
 
@@ -108,7 +108,7 @@ fn ask_program<Q: Question>(alloc: Global, program: &Program, ask: &Q, out: &mut
 }
 
 fn ask_modules<Q: Question>(alloc: Global, modules: &ModuleSet, ask: &Q, out: &mut String) -> bool {
-    match all_written(alloc, modules) {
+    match written(alloc, modules) {
         Ok(program) => ask_program(alloc, &program, ask, out),
         Err(_) => false,
     }

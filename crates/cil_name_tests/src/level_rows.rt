@@ -1,5 +1,5 @@
-//! Statements of levels, whose meaning is still to come: which names clash, which arguments fit, and which words name nothing. A host
-//! refuses them by name, so no session shows it.
+//! Statements of levels: which names clash, which arguments fit, and which words name nothing. What is wrong with the levels themselves
+//! is not asked here.
 
 use crate::answers::{ByNames, Question, show_faults};
 use crate::optional_choices::Judged;
@@ -7,7 +7,7 @@ use cil_blocks::{Spaces, inherit};
 use cil_declare::declare;
 use cil_macros::{Instances, expand};
 use cil_modset::ModuleSet;
-use cil_syntax::{Failure, Program, all_written};
+use cil_syntax::{Failure, Program, written};
 use cil_text_tests::set_of;
 use std::alloc::Global;
 
@@ -134,7 +134,7 @@ fn show_program(alloc: Global, program: &Program, out: &mut String) -> bool {
 }
 
 fn show_modules(alloc: Global, modules: &ModuleSet, out: &mut String) -> bool {
-    match all_written(alloc, modules) {
+    match written(alloc, modules) {
         Ok(program) => show_program(alloc, &program, out),
         Err(_) => false,
     }

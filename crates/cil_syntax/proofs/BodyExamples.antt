@@ -1,5 +1,5 @@
 -- Statements with statements inside, calls and set-aside statements, read by the definition of their rows.
-use Rattle.std.specs.Prelude.{◌≡◌, ℕ, ◌+◌, List, [], ◌∷◌, length, codes, Option, Some, None, refl, false}
+use Rattle.std.specs.Prelude.{◌≡◌, ℕ, ◌+◌, List, [], ◌∷◌, length, codes, Option, Some, None, refl}
 use Rattle.cil_sexpr.specs.Tree.{Node, Word as TextWord, Quoted, Branch, Nodes, none, next}
 use Rattle.cil_faults.specs.declared.code.FaultCode.{FaultCode}
 use Rattle.cil_faults.specs.declared.code.FaultCode.TheVariants as causes
@@ -206,7 +206,7 @@ abbrev fault_in_k : FaultCode → ℕ → List ℕ → Fault
 fault_in_k code at bytes = record { code = code; «module» = 7; at = at; space = codes "k"; word = bytes }
 
 -- `(booleanif b (true (typepermissive "a") (type "a")) (false (allow "a") (optional "a")))`: 22, 24, 23 and 24, each in the namespace k
-in_branches : all_faults false 7 (found_behind 7 (forked in_branch 2) (next (word 11 (codes "booleanif")) (next (word 21 (codes "b"))
+in_branches : all_faults 7 (found_behind 7 (forked in_branch 2) (next (word 11 (codes "booleanif")) (next (word 21 (codes "b"))
     (next (list 23 (next (word 24 (codes "true")) (next (of_word_at 30 (codes "typepermissive")) (next (of_word_at 60 (codes "type")) none))))
     (next (list 90 (next (word 91 (codes "false")) (next (of_word_at 97 (codes "allow")) (next (of_word_at 130 (codes "optional")) none)))) none)))))
     ≡ fault_in_k causes.Unsupported 30 (codes "typepermissive") ∷ fault_in_k causes.BadPlace 60 (codes "type")

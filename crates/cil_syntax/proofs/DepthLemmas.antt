@@ -18,7 +18,7 @@ use Rattle.cil_syntax.specs.Heads.{other_op, other_row}
 use Rattle.cil_syntax.specs.Shapes.{Row, Shape, many, unread}
 use Rattle.cil_syntax.specs.Table.{Body, plain, behind, branched, entry_of}
 use Rattle.cil_syntax.specs.Terms.{Term, Leaf, Name, Form, Terms, nil, cons, spot_of}
-use Rattle.cil_syntax.specs.Written.{Context, Written, FoundIn, top, inside, IsItem, first, later, IsWritten, written, FormFault, inner, fault_of, skipped, beside, all_behind_first, within, body_of}
+use Rattle.cil_syntax.specs.Written.{Context, Written, FoundIn, top, inside, IsItem, first, later, IsWritten, written, ShapeFault, inner, fault_of, skipped, beside, all_behind_first, within, body_of}
 use Rattle.cil_syntax.proofs.SpelledSo.{read_as_spelled}
 
 -- ---- what nests so deep nests deeper
@@ -171,13 +171,13 @@ module _ (modules : List (List ℕ)) where
       (within_nests (suc most_nested) (entry_of s.keyword).body (inner_of p)
       (nodes_deeper most_nested (inner_of p) (inner_nests most_nested p (found_nests m d p f))))
 
-  written_nests : ((f : Fault) → FormFault modules f → ⊥) → (w : Written) → IsWritten modules w → AllNest (Some most_nested) w.statement.args
+  written_nests : ((f : Fault) → ShapeFault modules f → ⊥) → (w : Written) → IsWritten modules w → AllNest (Some most_nested) w.statement.args
   written_nests clean w (written m context n s [] found verdict) =
       let spelled = (read_as_spelled m context n s).0 verdict in
       let inside_of_it = subst (NodesNest most_nested) spelled.begins (inner_nests most_nested n (found_nests m context n found)) in
       row_nests m most_nested spelled.entry.row spelled.rest s.args inside_of_it.1 spelled.fits
   written_nests clean w (written m context n s (i ∷ is) found verdict) =
-      absurd (clean (fault_of m context i) (inner m context n s (i ∷ is) i found refl verdict (contains_here i is)))
+      absurd (clean (fault_of m context i) (inner m context n s (i ∷ is) i found verdict (contains_here i is)))
 
-  pub shallow : ((f : Fault) → FormFault modules f → ⊥) → (ss : List rust.Statement) → ((w : Written) → Contains (program_of ss) w → IsWritten modules w) → AreShallow ss
+  pub shallow : ((f : Fault) → ShapeFault modules f → ⊥) → (ss : List rust.Statement) → ((w : Written) → Contains (program_of ss) w → IsWritten modules w) → AreShallow ss
   shallow clean ss all = λ w c. written_nests clean w (all w c)

@@ -20,7 +20,7 @@ use Rattle.cil_syntax.specs.Spelling.{same_bytes}
 use Rattle.cil_syntax.specs.Table.{Entry, classes, containers, effective, entry_of, levels, rules, set_aside, set_aside_words, table, types, in_rules, in_containers, in_types, in_classes, in_levels}
 use Rattle.cil_syntax.specs.Terms.{Terms}
 use Rattle.cil_syntax.specs.Told.{AreUnder}
-use Rattle.cil_syntax.specs.Written.{Written, allows, is_abstraction, is_outside, may_stand, names_its_block, IsWritten, written, FormFault, inner, fault_of, written_cmp}
+use Rattle.cil_syntax.specs.Written.{Written, allows, is_abstraction, is_outside, may_stand, names_its_block, IsWritten, written, ShapeFault, inner, fault_of, written_cmp}
 use Rattle.cil_syntax.proofs.SpelledSo.{read_as_spelled}
 
 -- ---- how statements begin
@@ -113,7 +113,7 @@ own_in entry c =
 
 -- ---- a program that was read
 
-module _ (modules : List (List ℕ)) (clean : (f : Fault) → FormFault modules f → ⊥) where
+module _ (modules : List (List ℕ)) (clean : (f : Fault) → ShapeFault modules f → ⊥) where
   -- what is asked of a statement where it stands
   record IsInPlace (w : Written) : Type 0 where
     allowed : may_stand w.context (entry_of w.statement.keyword) ≡ true
@@ -133,7 +133,7 @@ module _ (modules : List (List ℕ)) (clean : (f : Fault) → FormFault modules 
         begun_so = begun s.keyword m spelled.rest s.args (subst (λ r. FitsRow m r spelled.rest s.args) (sym row) spelled.fits);
       }
   in_place w (written m context n s (i ∷ is) found verdict) =
-      absurd (clean (fault_of m context i) (inner m context n s (i ∷ is) i found refl verdict (contains_here i is)))
+      absurd (clean (fault_of m context i) (inner m context n s (i ∷ is) i found verdict (contains_here i is)))
 
   pub nested : (ss : List program.Statement) → AreUnder ss → IsStrictlySortedBy written_cmp (program_of ss) → ((w : Written) → Contains (program_of ss) w → IsWritten modules w) → IsNested ss
   nested ss under rising all = record {

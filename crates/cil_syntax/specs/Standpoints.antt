@@ -1,11 +1,11 @@
 -- The nodes of a tree that stand where a statement must, in the order in which they are written: those of a body come
 -- behind the statement in which they stand.
-use Rattle.std.specs.Prelude.{ℕ, zero, suc, Bool, true, false, ◌&&◌, List, [], ◌∷◌, ◌++◌, map}
+use Rattle.std.specs.Prelude.{ℕ, zero, suc, List, [], ◌∷◌, ◌++◌, map}
 use Rattle.std.specs.List.{flat_map}
 use Rattle.cil_sexpr.specs.Tree.{Node, Word as TextWord, Quoted, Branch, Nodes, none, next}
 use Rattle.cil_faults.specs.declared.fault.Fault.{Fault}
 use Rattle.cil_syntax.specs.Table.{Body, plain, behind, branched, entry_of}
-use Rattle.cil_syntax.specs.Written.{Context, Written, Verdict, Refused, Shaped, begins_to_come, fault_of, fault_to_come, verdict_of, inside_of}
+use Rattle.cil_syntax.specs.Written.{Context, Written, Verdict, Refused, Shaped, fault_of, verdict_of, inside_of}
 
 -- a node, and where it stands
 pub record Standpoint : Type 0 where
@@ -61,17 +61,9 @@ abbrev pub stated_by : Context → Verdict → List Written
 stated_by c (Refused i) = []
 stated_by c (Shaped s faults) = record { context = c; statement = s } ∷ []
 
--- the faults that are told of a node: where it is refused by its word, that one alone
-abbrev pub told_as : Bool → ℕ → Context → Node → Verdict → List Fault
-told_as true m c n v = fault_to_come m c n ∷ []
-told_as false m c n v = faults_by m c v
-
-abbrev pub told_of : (refuses : Bool) → ℕ → Context → Node → List Fault
-told_of refuses m c n = told_as (refuses && begins_to_come n) m c n (verdict_of m c n)
-
--- the faults that are told of some nodes, and the statements that they are
-abbrev pub all_faults : (refuses : Bool) → ℕ → List Standpoint → List Fault
-all_faults refuses m fs = flat_map (λ f. told_of refuses m f.context f.node) fs
+-- the faults of some nodes, and the statements that they are
+abbrev pub all_faults : ℕ → List Standpoint → List Fault
+all_faults m fs = flat_map (λ f. faults_by m f.context (verdict_of m f.context f.node)) fs
 
 abbrev pub all_stated : ℕ → List Standpoint → List Written
 all_stated m fs = flat_map (λ f. stated_by f.context (verdict_of m f.context f.node)) fs

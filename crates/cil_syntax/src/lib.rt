@@ -56,7 +56,7 @@ pub use kind::{Keyword, Kind, Language, Nesting, Sign};
 pub use name_space::NameSpace;
 pub use path::{Path, PathParts, parted, path_of};
 pub use place::joined;
-pub use program::{Program, Statement, all_written, written};
+pub use program::{Program, Statement, written};
 pub use spelling::is_reserved;
 pub use statement_forms::{RuleParts, WordPair};
 pub use term::{Excerpt, LookedUp, Op, Term, Word};

@@ -10,7 +10,7 @@ ghost use Rattle.cil_syntax.specs.Program.{program_of};
 ghost use Rattle.cil_faults.specs.Refusal.{Answers};
 ghost use Rattle.cil_syntax.specs.Standpoints.{forked, found_behind, found_from, found_inside, opened, opening_by};
 ghost use Rattle.cil_syntax.specs.Told.{AreJudgedHere, IsModuleRead, StandsIn};
-ghost use Rattle.cil_syntax.specs.Written.{FaultOfShape, FormFault, IsWritten, ShapeFault, at_top, written_cmp};
+ghost use Rattle.cil_syntax.specs.Written.{IsWritten, ShapeFault, at_top, written_cmp};
 
 use crate::entry::Body;
 use crate::kind::Keyword;
@@ -78,25 +78,10 @@ impl<'a> Program<'a> {
     }
 }
 
-/// The statements that are written in modules; or, where one of them or one of its words is at fault, or its meaning is still to
-/// come, all faults of shape, or out of memory. Each module is read once; its tree is dropped before the next is read.
+/// The statements that are written in modules; or, where one of them or one of its words is at fault, all faults of shape, or
+/// out of memory. Each module is read once; its tree is dropped before the next is read.
 pub fn written(alloc: Global, modules: &ModuleSet) -> Result<Program<'_>, Failure>
     ensures { Answers (λ p. Lists written_cmp (IsWritten modules.now) (program_of p)) (ShapeFault modules.now) result }
-{
-    read_program(alloc, modules, true)
-}
-
-/// The same, with the statements whose meaning is still to come: for crates that give them one, and for tests. No policy is
-/// compiled from it.
-pub fn all_written(alloc: Global, modules: &ModuleSet) -> Result<Program<'_>, Failure>
-    ensures { Answers (λ p. Lists written_cmp (IsWritten modules.now) (program_of p)) (FormFault modules.now) result }
-{
-    read_program(alloc, modules, false)
-}
-
-/// Reads all modules. It is told whether statements whose meaning is still to come are refused.
-fn read_program(alloc: Global, modules: &ModuleSet, refuses: bool) -> Result<Program<'_>, Failure>
-    ensures { Answers (λ p. Lists written_cmp (IsWritten modules.now) (program_of p)) (FaultOfShape refuses modules.now) result }
 {
     // That a text has one tree makes what was read what is written.
     texts::one_tree();
@@ -109,7 +94,6 @@ fn read_program(alloc: Global, modules: &ModuleSet, refuses: bool) -> Result<Pro
             text: modules.get(i),
             number: i as u64,
             place: &top,
-            refuses,
         };
         reader.read_module(&mut statements, &mut faults)?;
     }
@@ -128,7 +112,7 @@ impl<'r, 'a> Reader<'r, 'a> {
     ) -> Result<(), NoMemory>
         requires readable { IsReadable self.now.text.now }
         requires top { StandsIn at_top self.now.place.now statements.old.items }
-        ensures { OnOk result (IsModuleRead self.now.refuses self.now.number self.now.text.now statements.old.items statements.new.items faults.old.items faults.new.items) }
+        ensures { OnOk result (IsModuleRead self.now.number self.now.text.now statements.old.items statements.new.items faults.old.items faults.new.items) }
     {
         texts::never_both();
         match read(self.alloc, self.text) {
@@ -199,7 +183,7 @@ impl<'r, 'a> Reader<'r, 'a> {
     ) -> Result<(), NoMemory>
         ensures { OnOk result (AreJudgedHere self.now (λ context. found_from self.now.number context (node_of self.now.text.now node.now)) statements.old.items statements.new.items faults.old.items faults.new.items) }
     {
-        let Some(statement) = self.judge_node(node, faults)? else {
+        let Some(statement) = self.judge(node, faults)? else {
             return Ok(());
         };
         let Some(body) = statement.keyword.body() else {
@@ -214,7 +198,6 @@ impl<'r, 'a> Reader<'r, 'a> {
             text: self.text,
             number: self.number,
             place: &place,
-            refuses: self.refuses,
         };
         reader.judge_body(node, body, statements, faults)
     }

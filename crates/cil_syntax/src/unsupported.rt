@@ -1,31 +1,10 @@
-//! The words of statements that are not supported, and of those that are read and have no meaning yet.
+//! The words of statements that are not supported: they are refused by name.
 
 ghost use Rattle.std.specs.Prelude.{◌≡◌};
 ghost use Rattle.cil_syntax.specs.Spelling.{is_one_of};
-ghost use Rattle.cil_syntax.specs.Table.{is_unsupported, later_words, left_out_words, words_to_come};
+ghost use Rattle.cil_syntax.specs.Table.{is_unsupported, later_words, left_out_words};
 
 use crate::spelling;
-
-/// The statements that are read, and whose meaning is still to come: levels, and what rests on them.
-const WORDS_TO_COME: [&[u8]; 17] = [
-    b"sensitivity",
-    b"sensitivityalias",
-    b"sensitivityaliasactual",
-    b"sensitivityorder",
-    b"sensitivitycategory",
-    b"mls",
-    b"category",
-    b"categoryalias",
-    b"categoryaliasactual",
-    b"categoryorder",
-    b"categoryset",
-    b"userlevel",
-    b"userrange",
-    b"level",
-    b"levelrange",
-    b"rangetransition",
-    b"mlsconstrain",
-];
 
 /// The statements that are to be supported, and are not yet.
 const LATER_WORDS: [&[u8]; 1] = [b"typepermissive"];
@@ -45,14 +24,6 @@ const LEFT_OUT_WORDS: [&[u8]; 12] = [
     b"tunableif",
     b"deny",
 ];
-
-/// Whether the word begins a statement that is read, and whose meaning is still to come.
-#[tactic(auto, unfolding(crate::specs::Table::words_to_come))]
-pub(crate) fn is_to_come(word: &[u8]) -> bool
-    ensures { result ≡ is_one_of words_to_come word.now }
-{
-    spelling::is_one_of(&WORDS_TO_COME, word)
-}
 
 /// Whether the word begins a statement that is known and not supported.
 pub(crate) fn is_known(word: &[u8]) -> bool

@@ -1,6 +1,6 @@
 -- What the tables of items say is what the items say.
 use Rattle.std.specs.Prelude.{Contains, Some, slice_get}
-use Rattle.std.proofs.Common.{◌≡◌, ℕ, Bool, List, [], ◌∷◌, refl, sym, ◌∙◌, ap, subst, inl, inr}
+use Rattle.std.proofs.Common.{◌≡◌, ℕ, Bool, List, refl, sym, ◌∙◌, ap, subst, inl, inr}
 use Rattle.cil_base.specs.Lists.{Lists, text_cmp}
 use Rattle.cil_base.specs.Places.{get_at, get_contains}
 use Rattle.cil_syntax.specs.declared.kind.Keyword.{Keyword}
@@ -14,7 +14,10 @@ use Rattle.cil_rules.specs.Rule.{Rule, Target, Types, Itself}
 use Rattle.cil_tables.specs.Agrees.{Agrees, BarsAs, CoverAs, SameContext, SamePermission}
 use Rattle.cil_known.specs.Says.{AreJoined}
 use Rattle.cil_constraints.specs.Contexts.{Context}
-use Rattle.cil_mls.specs.Dominance.{no_level}
+use Rattle.cil_ranges.proofs.GroundLemmas.{one_ground}
+use Rattle.cil_labels.specs.Labels.{BeginsWith}
+use Rattle.cil_level_rows.specs.Rows.{IsClearedBy, IsLabelBy}
+use Rattle.cil_level_rows.proofs.AlikeLaws.{clears_alike, reads_alike}
 use Rattle.cil_tables.specs.Contexts.{IsValid}
 use Rattle.cil_conditions.proofs.ConditionLemmas.{branches_agree, chosen_is_said}
 use Rattle.cil_conditions.specs.Conditions.{IsChosen, Settings}
@@ -85,10 +88,14 @@ module _ (xs : List Item) (s : OptSet) (one : HaveOneSymbol xs s) where
         let kind = type_there is.kind n.kind is.a_type in
         let user_at = numbered_there t.users kinds.User is.user n.user is.a_user user in
         let role_at = numbered_there t.roles kinds.Role is.role n.role is.a_role role in (
-          record { user = user.symbol; role = role.symbol; kind = kind.0; low = no_level; high = no_level },
+          record { user = user.symbol; role = role.symbol; kind = kind.0; low = n.low; high = n.high },
           record {
+            ground = table.levels.ground;
+            is_ground = table.levels.is_ground;
             written = is.kind;
-            parts = is.parts ∙ (λ i. sym user.named i ∷ sym role.named i ∷ is.kind ∷ []);
+            rest = is.rest;
+            begins = subst (λ z. BeginsWith text z (name_of role.symbol) is.rest) (sym user.named) (subst (λ z. BeginsWith text is.user z is.rest) (sym role.named) is.begins);
+            label = (reads_alike xs s table.levels.ground t.users t.levels table.levels.over is.rest is.kind n.low n.high).0 is.label;
             names_kind = kind.1;
             a_user = user.declared;
             a_role = role.declared;
@@ -98,25 +105,28 @@ module _ (xs : List Item) (s : OptSet) (one : HaveOneSymbol xs s) where
               | inr both ↦ inr (
                 joined_from keywords.UserRole kinds.User kinds.Role t.users t.roles _ _ n.user n.role user.declared role.declared user_at role_at ((table.user_roles.members _).0 both.role),
                 joined_from keywords.RoleType kinds.Role kinds.Type_ t.roles t.types _ _ n.role n.kind role.declared kind.2 role_at kind.3 ((table.role_types.members _).0 both.kind),
+                λ on. (clears_alike xs s table.levels.ground t.users t.levels table.levels.over on user.symbol n.user user.declared user_at n.low n.high).0 (both.cleared (table.levels.over.on.1 on)),
               )
             ];
-            low = refl;
-            high = refl;
           },
-          record { user = user_at; role = role_at; kind = kind.3; low = is.low; high = is.high; a_user = user.declared; a_role = role.declared; a_type = kind.2 },
+          record { user = user_at; role = role_at; kind = kind.3; low = refl; high = refl; a_user = user.declared; a_role = role.declared; a_type = kind.2 },
         )
 
     finds : (text : List ℕ) (c : Context) → IsValid xs s text c → (n : Numbers) × IsContext t text n × SameContext xs s t n c
     finds text c is =
         let user = number_of_symbol t.users kinds.User table.users c.user is.a_user in
         let role = number_of_symbol t.roles kinds.Role table.roles c.role is.a_role in
-        let kind = number_of_symbol t.types kinds.Type_ table.types c.kind is.a_type in (
-          record { user = user.0; role = role.0; kind = kind.0; low = no_level; high = no_level },
+        let kind = number_of_symbol t.types kinds.Type_ table.types c.kind is.a_type in
+        let ground : is.ground ≡ table.levels.ground = one_ground xs s is.ground table.levels.ground is.is_ground table.levels.is_ground in (
+          record { user = user.0; role = role.0; kind = kind.0; low = c.low; high = c.high },
           record {
             user = name_of c.user;
             role = name_of c.role;
             kind = is.written;
-            parts = is.parts;
+            rest = is.rest;
+            begins = is.begins;
+            label = (reads_alike xs s table.levels.ground t.users t.levels table.levels.over is.rest is.written c.low c.high).1
+                (subst (λ g. IsLabelBy xs s g is.rest is.written c.low c.high) ground is.label);
             a_user = user.1;
             a_role = role.1;
             a_type = type_back is.written c.kind kind.0 kind.1 is.names_kind;
@@ -127,12 +137,14 @@ module _ (xs : List Item) (s : OptSet) (one : HaveOneSymbol xs s) where
                     (record { holder = c.user; held = c.role; joined = both.0; holder_number = user.1; held_number = role.1 });
                 kind = (table.role_types.members (record { holder = role.0; held = kind.0 })).1
                     (record { holder = c.role; held = c.kind; joined = both.1; holder_number = role.1; held_number = kind.1 });
+                cleared = λ on.
+                    let switched = table.levels.over.on.0 on in
+                    (clears_alike xs s table.levels.ground t.users t.levels table.levels.over switched c.user user.0 is.a_user user.1 c.low c.high).1
+                    (subst (λ g. IsClearedBy s g c.user c.low c.high) ground (both.2 switched));
               })
             ];
-            low = refl;
-            high = refl;
           },
-          record { user = user.1; role = role.1; kind = kind.1; low = sym is.low; high = sym is.high; a_user = is.a_user; a_role = is.a_role; a_type = is.a_type },
+          record { user = user.1; role = role.1; kind = kind.1; low = refl; high = refl; a_user = is.a_user; a_role = is.a_role; a_type = is.a_type },
         )
 
     -- ---- rules

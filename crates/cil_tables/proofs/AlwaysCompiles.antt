@@ -39,7 +39,11 @@ use Rattle.cil_tables.proofs.FlatLemmas.{AreFlat, one_flat}
 use Rattle.cil_tables.proofs.FlatPrograms.{flat_keyword, flat_statement, items_flat, with_flat_keywords, without_optionals}
 use Rattle.cil_tables.proofs.FiniteFaults.{finite_clashes, finite_unresolved, step_outcome}
 use Rattle.cil_tables.proofs.FiniteSets.{finite_sets}
-use Rattle.cil_tables.proofs.NoGifts.{HaveFlatKeywords}
+use Rattle.cil_level_rows.specs.Steps.{LevelStep}
+use Rattle.cil_level_rows.specs.NoLevels.{empty_ground}
+use Rattle.cil_level_rows.proofs.NoLevels.{is_empty_ground, no_level_fault}
+use Rattle.cil_level_rows.proofs.OneFaultLemmas.{by_ground}
+use Rattle.cil_tables.proofs.NoGifts.{HaveFlatKeywords, without_levels}
 use Rattle.cil_tables.proofs.TablesExist.{tables}
 use Rattle.cil_tables.proofs.WideClasses.{few}
 
@@ -50,7 +54,7 @@ module _ (xs : List Item) (none : (f : Fault) → SetsFault nobody xs f → ⊥)
   few_booleans t is = elim (cases_lt most_booleans (length t.booleans)) [
     | inl big ↦ let len = length-map t.booleans (λ (b : Boolean). b.name) in
         absurd (none (global_fault causes.TooMany nowhere (codes "booleans"))
-        (inr (inr (record { names = boolean_names t.booleans; are_names = is.booleans.names; many = omega (arith, big, len); told = refl }))))
+        (inr (inr (inl (record { names = boolean_names t.booleans; are_names = is.booleans.names; many = omega (arith, big, len); told = refl })))))
     | inr some ↦ some
   ]
 
@@ -113,6 +117,12 @@ module _ (modules : List (List ℕ)) (program : List Written) (is_program : List
   nothing_forbidden f (violated n a q is) =
       let by = is.both.forbidden in true≢false (sym (plain n by.is_item) ∙ ap is_flat by.is_keyword)
 
+  -- no statement is of levels
+  nothing_levelled : (f : Fault) → LevelStep items nobody f → ⊥
+  nothing_levelled f step =
+      let none = without_levels items plain in
+      no_level_fault items nobody none f (by_ground items nobody (empty_ground items) (is_empty_ground items nobody none) f step)
+
   without_faults : ((f : Fault) → ClashFault items f → ⊥) → ((f : Fault) → ResolveFault nobody items f → ⊥) → ((f : Fault) → SetsFault nobody items f → ⊥) → Outcome modules
   without_faults apart named narrow =
       let t = tables items plain flat in
@@ -120,7 +130,7 @@ module _ (modules : List (List ℕ)) (program : List Written) (is_program : List
         items = items;
         enabled = nobody;
         policy = record { are_items = are_items; greatest = greatest };
-        no_faults = nothing_wrong modules items are_items front apart nobody greatest named narrow nothing_forbidden;
+        no_faults = nothing_wrong modules items are_items front apart nobody greatest named narrow nothing_levelled nothing_forbidden;
         table = t.1;
         agrees = table_agrees items nobody (one_flat items flat) t.0 t.1;
       })

@@ -26,6 +26,7 @@ use Rattle.cil_macros.specs.Walks.{written_in}
 use Rattle.cil_tables.proofs.AgreesLemmas.{table_agrees}
 use Rattle.cil_tables.proofs.PlainLemmas.{AreBegun, AreNamed, are_named, one_symbol}
 use Rattle.cil_neverallow.specs.NeverFaults.{NeverFault}
+use Rattle.cil_level_rows.specs.Steps.{LevelStep}
 use Rattle.cil_tables.specs.SetsStep.{SetsFault}
 use Rattle.cil_tables.specs.declared.compiler.Compiled.{Compiled}
 use Rattle.cil_tables.specs.CompileAnswer.{IsCompiled, IsCompiledOf, StandsIn}
@@ -184,7 +185,8 @@ module _ (modules : List (List ℕ)) (xs : List Item) (are : AreItems modules xs
     its_policy : ArePolicy modules xs s
     its_policy = record { are_items = are; greatest = greatest }
 
-    after_clash : (fs : List Fault) → AreFirst (OfPolicy modules (λ ys r. ResolveFault r ys) ∷ OfPolicy modules (λ ys r. SetsFault r ys) ∷ OfPolicy modules NeverFault ∷ []) fs → ArePolicyFaults modules fs
+    after_clash : (fs : List Fault) → AreFirst (OfPolicy modules (λ ys r. ResolveFault r ys) ∷ OfPolicy modules (λ ys r. SetsFault r ys) ∷ OfPolicy modules LevelStep ∷ OfPolicy modules NeverFault ∷ []) fs
+        → ArePolicyFaults modules fs
     after_clash fs first = inr (front.shape, inr (front.blocks, inr (front.calls, inr (no_step modules xs are ClashFault apart, first))))
 
     pub words_fail : (failure : Failure) → Fails (ResolveFault s xs) failure → CompileFails modules failure
@@ -203,12 +205,20 @@ module _ (modules : List (List ℕ)) (xs : List Item) (are : AreItems modules xs
         no_set : (f : Fault) → OfPolicy modules (λ ys r. SetsFault r ys) f → ⊥
         no_set = no_policy_step modules xs s its_policy (λ ys r. SetsFault r ys) few
 
-        never_fail : (failure : Failure) → Fails (NeverFault xs s) failure → CompileFails modules failure
-        never_fail (Faults fs) a = (after_clash fs (inr (no_word, inr (no_set, inl (policy_faults modules xs s its_policy NeverFault fs a)))), a.some)
-        never_fail NoMemory a = tt
+        levels_fail : (failure : Failure) → Fails (LevelStep xs s) failure → CompileFails modules failure
+        levels_fail (Faults fs) a = (after_clash fs (inr (no_word, inr (no_set, inl (policy_faults modules xs s its_policy LevelStep fs a)))), a.some)
+        levels_fail NoMemory a = tt
 
-        pub nothing_wrong : ((f : Fault) → NeverFault xs s f → ⊥) → ArePolicyFaults modules []
-        nothing_wrong kept = after_clash [] (inr (no_word, inr (no_set, inr (no_policy_step modules xs s its_policy NeverFault kept, refl))))
+        module _ (level : (f : Fault) → LevelStep xs s f → ⊥) where
+          no_level : (f : Fault) → OfPolicy modules LevelStep f → ⊥
+          no_level = no_policy_step modules xs s its_policy LevelStep level
+
+          never_fail : (failure : Failure) → Fails (NeverFault xs s) failure → CompileFails modules failure
+          never_fail (Faults fs) a = (after_clash fs (inr (no_word, inr (no_set, inr (no_level, inl (policy_faults modules xs s its_policy NeverFault fs a))))), a.some)
+          never_fail NoMemory a = tt
+
+          pub nothing_wrong : ((f : Fault) → NeverFault xs s f → ⊥) → ArePolicyFaults modules []
+          nothing_wrong kept = after_clash [] (inr (no_word, inr (no_set, inr (no_level, inr (no_policy_step modules xs s its_policy NeverFault kept, refl)))))
 
 -- ---- the steps over items alone
 
@@ -231,16 +241,22 @@ module _ (xs : List Item) where
     sets_fail (Faults fs) a = (inl a, a.some)
     sets_fail NoMemory a = tt
 
-    pub forbidden_fail : ((f : Fault) → SetsFault s xs f → ⊥) → (failure : Failure) → Fails (NeverFault xs s) failure → LaterFail xs s failure
-    forbidden_fail few (Faults fs) a = (inr (few, inl a), a.some)
-    forbidden_fail few NoMemory a = tt
+    pub levels_first : ((f : Fault) → SetsFault s xs f → ⊥) → (failure : Failure) → Fails (LevelStep xs s) failure → LaterFail xs s failure
+    levels_first few (Faults fs) a = (inr (few, inl a), a.some)
+    levels_first few NoMemory a = tt
+
+    pub forbidden_fail : ((f : Fault) → SetsFault s xs f → ⊥) → ((f : Fault) → LevelStep xs s f → ⊥) → (failure : Failure) → Fails (NeverFault xs s) failure → LaterFail xs s failure
+    forbidden_fail few level (Faults fs) a = (inr (few, inr (level, inl a)), a.some)
+    forbidden_fail few level NoMemory a = tt
 
 module _ (modules : List (List ℕ)) (xs : List Item) (are : AreItems modules xs) (front : IsFront modules) where
   of_set : ((f : Fault) → ClashFault xs f → ⊥) → (s : OptSet) → IsGreatest xs s → (fs : List Fault) → AreFirst (set_steps xs s) fs → ArePolicyFaults modules fs
   of_set apart s greatest fs (inl lost) = (words_fail modules xs are front apart s greatest (Faults fs) lost).0
   of_set apart s greatest fs (inr (named, inl broad)) = (widths_fail modules xs are front apart s greatest named (Faults fs) broad).0
-  of_set apart s greatest fs (inr (named, inr (few, inl met))) = (never_fail modules xs are front apart s greatest named few (Faults fs) met).0
-  of_set apart s greatest fs (inr (named, inr (few, inr (kept, e)))) = subst (ArePolicyFaults modules) (sym e) (nothing_wrong modules xs are front apart s greatest named few kept)
+  of_set apart s greatest fs (inr (named, inr (few, inl high))) = (levels_fail modules xs are front apart s greatest named few (Faults fs) high).0
+  of_set apart s greatest fs (inr (named, inr (few, inr (level, inl met)))) = (never_fail modules xs are front apart s greatest named few level (Faults fs) met).0
+  of_set apart s greatest fs (inr (named, inr (few, inr (level, inr (kept, e))))) =
+      subst (ArePolicyFaults modules) (sym e) (nothing_wrong modules xs are front apart s greatest named few level kept)
 
   first_of_all : (fs : List Fault) → AreItemsFaults xs fs → ArePolicyFaults modules fs
   first_of_all fs (inl clash) = (clash_fails modules xs are front (Faults fs) clash).0

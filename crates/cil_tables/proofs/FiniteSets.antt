@@ -1,12 +1,12 @@
 -- The faults of sets are finite where no set has members.
 use Rattle.std.specs.Prelude.{Some, codes}
 use Rattle.std.specs.Option.{option_map_or}
-use Rattle.std.proofs.Common.{◌≡◌, ◌⊎◌, ◌↔◌, ℕ, ◌<◌, ◌||◌, true, false, List, length, refl, sym, ◌∙◌, ap, arith}
+use Rattle.std.proofs.Common.{◌≡◌, ◌⊎◌, ◌↔◌, ℕ, ◌<◌, ◌||◌, true, false, List, [], length, refl, sym, ◌∙◌, ap, arith}
 use Rattle.std.proofs.lemmas.Bool.{true≢false}
 use Rattle.std.proofs.lemmas.Cmp.{nat_list_cmp_total}
 use Rattle.std.proofs.lemmas.Map.Lookups.{exact_bytes}
 use Rattle.std.proofs.lemmas.Option.{none-some, same_Some}
-use Rattle.cil_base.specs.Lists.{one_list, text_cmp}
+use Rattle.cil_base.specs.Lists.{contains_none, one_list, text_cmp}
 use Rattle.cil_base.specs.Listing.{Listing}
 use Rattle.cil_faults.specs.Reported.{global_fault}
 use Rattle.cil_faults.specs.declared.code.FaultCode.TheVariants as causes
@@ -27,7 +27,9 @@ use Rattle.cil_tables.specs.SetsStep.{MembersFault, SetsFault}
 use Rattle.cil_tables.proofs.Finite.{Finite, finite_either, finite_if, finite_listing, finite_same}
 use Rattle.cil_tables.proofs.FiniteFaults.{decided_less, finite_class}
 use Rattle.cil_tables.proofs.FinitePolicy.{finite_names}
-use Rattle.cil_tables.proofs.NoGifts.{HaveFlatKeywords, declares_no_alias, gives_none, is_alias, none_depends}
+use Rattle.cil_mls.specs.OrderFaults.{OrderFault}
+use Rattle.cil_level_rows.proofs.NoLevels.{no_order_fault}
+use Rattle.cil_tables.proofs.NoGifts.{HaveFlatKeywords, declares_no_alias, gives_none, is_alias, none_depends, without_levels}
 
 -- the kinds of the aliases of all name spaces
 alias_kind : (kind : Kind) (j : Sets) → (space_of kind).aliases ≡ Some j → is_alias j.kind ≡ true
@@ -118,7 +120,12 @@ module _ (xs : List Item) (flat : HaveFlatKeywords xs) (s : OptSet) where
       (finite_either (SetFault xs s (space_of kinds.Role)) (SetFault xs s (space_of kinds.Type_)) (finite_set_faults xs flat s kinds.Role 4096 (codes "roles") refl)
       (finite_set_faults xs flat s kinds.Type_ 65535 (codes "types") refl))
 
+  -- without statements of levels nothing is wrong with orders
+  no_orders : Finite (OrderFault xs s)
+  no_orders = record { all = []; only = λ f c. absurd (contains_none f c); each = λ f o. absurd (no_order_fault xs s (without_levels xs flat) f o) }
+
   pub finite_sets : Finite (SetsFault s xs)
   finite_sets =
-      finite_either (ClassFault s xs) (λ f. MembersFault s xs f ⊎ HasManyBooleans s xs f) (finite_class xs s)
-      (finite_either (MembersFault s xs) (HasManyBooleans s xs) finite_members (finite_booleans xs s))
+      finite_either (ClassFault s xs) (λ f. MembersFault s xs f ⊎ (HasManyBooleans s xs f ⊎ OrderFault xs s f)) (finite_class xs s)
+      (finite_either (MembersFault s xs) (λ f. HasManyBooleans s xs f ⊎ OrderFault xs s f) finite_members
+      (finite_either (HasManyBooleans s xs) (OrderFault xs s) (finite_booleans xs s) no_orders))

@@ -15,6 +15,8 @@ use Rattle.cil_tables.specs.declared.tables.Link.{Link}
 use Rattle.cil_tables.specs.Booleans.{is_default_on}
 use Rattle.cil_index.specs.Sections.{RuleSections}
 use Rattle.cil_tables.specs.Links.{IsLink}
+use Rattle.cil_labels.specs.LevelTable.{LevelTable}
+use Rattle.cil_level_rows.specs.Rows.{IsLevelTable}
 use Rattle.cil_tables.specs.Compiled.{AreConstraints, AreRules, IsTable}
 use Rattle.cil_constraints.specs.declared.mask.Constraint.{Constraint}
 use Rattle.cil_constraints.specs.declared.step.Part.{Part}
@@ -28,10 +30,10 @@ use Rattle.cil_tables.specs.Aliases.{IsAlias}
 use Rattle.cil_tables.specs.Table.{Table, alias_cmp, boolean_names, link_cmp, names_in}
 
 -- the sections, as a table
-module _ (xs : List Item) (s : OptSet) (names : Kind → List (List ℕ)) (users roles types : List (List ℕ)) (aliases : List Alias) (classes : List Class) (booleans : List Boolean) (user_roles role_types role_allows : List Link) (rules : RuleSections) (constraints : List Constraint) where
+module _ (xs : List Item) (s : OptSet) (names : Kind → List (List ℕ)) (users roles types : List (List ℕ)) (aliases : List Alias) (classes : List Class) (booleans : List Boolean) (user_roles role_types role_allows : List Link) (rules : RuleSections) (constraints : List Constraint) (levels : LevelTable) where
   -- the table, by these names
   abbrev made : Table
-  made = record { users = names kinds.User; roles = names kinds.Role; types = names kinds.Type_; type_aliases = aliases; classes = classes; booleans = booleans; user_roles = user_roles; role_types = role_types; role_allows = role_allows; rules = rules; constraints = constraints }
+  made = record { levels = levels; users = names kinds.User; roles = names kinds.Role; types = names kinds.Type_; type_aliases = aliases; classes = classes; booleans = booleans; user_roles = user_roles; role_types = role_types; role_allows = role_allows; rules = rules; constraints = constraints }
 
   same_names : (part : Part) → names (kind_of part) ≡ names_in made (kind_of part)
   same_names parts.User = refl
@@ -49,12 +51,14 @@ module _ (xs : List Item) (s : OptSet) (names : Kind → List (List ℕ)) (users
       → Lists link_cmp (IsLink xs s keywords.RoleAllow kinds.Role kinds.Role (names kinds.Role) (names kinds.Role)) role_allows
       → AreRules xs s (names kinds.Type_) classes (names kinds.Boolean) rules
       → AreConstraints xs s names classes constraints
-      → IsTable xs s (record { users = users; roles = roles; types = types; type_aliases = aliases; classes = classes; booleans = booleans; user_roles = user_roles; role_types = role_types; role_allows = role_allows; rules = rules; constraints = constraints })
-  table_of u r t us rs ts bs b ds of_aliases cs urs rts ras ru con =
-      subst (λ (z : List (List ℕ)). IsTable xs s (record { users = z; roles = roles; types = types; type_aliases = aliases; classes = classes; booleans = booleans; user_roles = user_roles; role_types = role_types; role_allows = role_allows; rules = rules; constraints = constraints })) (sym u)
-      (subst (λ (z : List (List ℕ)). IsTable xs s (record { users = names kinds.User; roles = z; types = types; type_aliases = aliases; classes = classes; booleans = booleans; user_roles = user_roles; role_types = role_types; role_allows = role_allows; rules = rules; constraints = constraints })) (sym r)
-      (subst (λ (z : List (List ℕ)). IsTable xs s (record { users = names kinds.User; roles = names kinds.Role; types = z; type_aliases = aliases; classes = classes; booleans = booleans; user_roles = user_roles; role_types = role_types; role_allows = role_allows; rules = rules; constraints = constraints })) (sym t)
+      → IsLevelTable xs s (names kinds.User) levels
+      → IsTable xs s (record { levels = levels; users = users; roles = roles; types = types; type_aliases = aliases; classes = classes; booleans = booleans; user_roles = user_roles; role_types = role_types; role_allows = role_allows; rules = rules; constraints = constraints })
+  table_of u r t us rs ts bs b ds of_aliases cs urs rts ras ru con lev =
+      subst (λ (z : List (List ℕ)). IsTable xs s (record { levels = levels; users = z; roles = roles; types = types; type_aliases = aliases; classes = classes; booleans = booleans; user_roles = user_roles; role_types = role_types; role_allows = role_allows; rules = rules; constraints = constraints })) (sym u)
+      (subst (λ (z : List (List ℕ)). IsTable xs s (record { levels = levels; users = names kinds.User; roles = z; types = types; type_aliases = aliases; classes = classes; booleans = booleans; user_roles = user_roles; role_types = role_types; role_allows = role_allows; rules = rules; constraints = constraints })) (sym r)
+      (subst (λ (z : List (List ℕ)). IsTable xs s (record { levels = levels; users = names kinds.User; roles = names kinds.Role; types = z; type_aliases = aliases; classes = classes; booleans = booleans; user_roles = user_roles; role_types = role_types; role_allows = role_allows; rules = rules; constraints = constraints })) (sym t)
       (record {
+        levels = lev;
         users = us;
         roles = rs;
         types = ts;

@@ -19,6 +19,7 @@ use Rattle.cil_known.specs.Family.{DependsOn, Family, IsRanked, Solves, Uses, at
 use Rattle.cil_known.specs.Members.{StandsFor, gives_category_aliases, gives_role_attributes, gives_sensitivity_aliases, gives_type_aliases, gives_type_attributes, gives_user_attributes, space_of}
 use Rattle.cil_known.specs.Spaces.{Sets, any_sets, names}
 use Rattle.cil_known.proofs.FamilyLemmas.{stands_is}
+use Rattle.cil_level_rows.specs.NoLevels.{is_of_levels}
 use Rattle.cil_tables.specs.Laws.{is_flat}
 use Rattle.cil_tables.proofs.WideClasses.{of_own_kind}
 
@@ -96,6 +97,14 @@ empty a t = false
 -- the keywords of all items are such
 abbrev pub HaveFlatKeywords : List Item → Type 0
 HaveFlatKeywords xs = (x : Item) → Contains xs x → is_flat x.keyword ≡ true
+
+not_of_levels : (k : Keyword) → is_flat k ≡ true → is_of_levels k ≡ false
+not_of_levels keywords.Call e = absurd cc
+not_of_levels k e = cc
+
+-- no item is a statement of levels
+pub without_levels : (xs : List Item) → HaveFlatKeywords xs → (x : Item) → Contains xs x → is_of_levels x.keyword ≡ false
+without_levels xs flat x c = not_of_levels x.keyword (flat x c)
 
 module _ (xs : List Item) (flat : HaveFlatKeywords xs) (s : OptSet) (kind : Kind) where
   -- no statement names a set to which it gives something

@@ -1,5 +1,5 @@
 -- Modules have one answer.
-use Rattle.std.specs.Prelude.{Contains, ◌↔◌, slice_get, IsBitSet}
+use Rattle.std.specs.Prelude.{Contains, ◌↔◌, slice_get, IsBitSet, Some}
 use Rattle.std.specs.Ordering.{nat_cmp}
 use Rattle.std.specs.List.Sorted.{IsStrictlySortedBy}
 use Rattle.std.proofs.Common.{◌≡◌, ℕ, Bool, zero, suc, true, ◌<◌, List, [], ◌∷◌, length, refl, sym, ◌∙◌, ap, subst, inl, inr, arith}
@@ -7,7 +7,7 @@ use Rattle.std.proofs.lemmas.Cmp.{nat_cmp_total, nat_list_cmp_total, on_total}
 use Rattle.cil_base.specs.Lists.{Lists, text_cmp, one_list, same_members}
 use Rattle.cil_faults.specs.declared.fault.Fault.{Fault}
 use Rattle.cil_base.specs.Lists.{contains_here, contains_later}
-use Rattle.cil_base.specs.Places.{cons_head, cons_tail}
+use Rattle.cil_base.specs.Places.{cons_head, cons_tail, get_contains}
 use Rattle.cil_syntax.specs.declared.kind.Keyword.{Keyword}
 use Rattle.cil_syntax.specs.declared.kind.Keyword.TheVariants as keywords
 use Rattle.cil_index.specs.Sections.{RuleSections}
@@ -24,7 +24,10 @@ use Rattle.cil_tables.specs.Compiled.{AreConstraints, AreRules, AreRulesOf, IsTa
 use Rattle.cil_tables.specs.Named.{IsNameOf}
 use Rattle.cil_classes.specs.ClassRows.{IsRowOf}
 use Rattle.std.proofs.lemmas.Option.{same_Some}
-use Rattle.cil_names.specs.Declarations.{Symbol}
+use Rattle.cil_names.specs.Declarations.{Declared, Symbol}
+use Rattle.cil_known.specs.Known.{IsNumbered}
+use Rattle.cil_level_rows.specs.Rows.{IsLevelTable}
+use Rattle.cil_level_rows.proofs.OneTableLaws.{one_level_table}
 use Rattle.cil_faults.specs.First.{AreFirst}
 use Rattle.cil_tables.specs.Faults.{ArePolicyFaults, steps}
 use Rattle.cil_macros.specs.Item.{Item, OptSet}
@@ -67,10 +70,10 @@ one_list_of_faults modules faults others a b = one_first (steps modules) faults 
 same_row : (a b : Class) → a.name ≡ b.name → a.permissions ≡ b.permissions → a ≡ b
 same_row a b n p = λ i. record { name = n i; permissions = p i }
 
-same_table : (t u : Table) → t.users ≡ u.users → t.roles ≡ u.roles → t.types ≡ u.types → t.type_aliases ≡ u.type_aliases → t.classes ≡ u.classes → t.user_roles ≡ u.user_roles
+same_table : (t u : Table) → t.levels ≡ u.levels → t.users ≡ u.users → t.roles ≡ u.roles → t.types ≡ u.types → t.type_aliases ≡ u.type_aliases → t.classes ≡ u.classes → t.user_roles ≡ u.user_roles
     → t.role_types ≡ u.role_types → t.role_allows ≡ u.role_allows → t.rules ≡ u.rules → t.booleans ≡ u.booleans → t.constraints ≡ u.constraints → t ≡ u
-same_table t u a b c d e f g j h k l =
-    λ i. record { users = a i; roles = b i; types = c i; type_aliases = d i; classes = e i; booleans = k i; user_roles = f i; role_types = g i; role_allows = j i; rules = h i; constraints = l i }
+same_table t u v a b c d e f g j h k l =
+    λ i. record { levels = v i; users = a i; roles = b i; types = c i; type_aliases = d i; classes = e i; booleans = k i; user_roles = f i; role_types = g i; role_allows = j i; rules = h i; constraints = l i }
 
 -- booleans with the same names and the same defaults are one list
 same_boolean : (a b : Boolean) → a.name ≡ b.name → a.default ≡ b.default → a ≡ b
@@ -147,6 +150,12 @@ module _ (xs : List Item) (s : OptSet) where
     same_sections_of parts.Role users roles types = roles
     same_sections_of parts.Kind users roles types = types
 
+    -- each user of a number is declared
+    declared : (n : ℕ) (name : List ℕ) → slice_get u.users n ≡ Some name → (user : Symbol) × Declared xs s kinds.User user × IsNumbered u.users user n
+    declared n name at =
+        let of = (b.users.members name).0 (get_contains u.users n name at) in
+        (of.symbol, of.declared, at ∙ ap Some (sym of.named))
+
     pub equal_tables : t ≡ u
     equal_tables =
         let users : t.users ≡ u.users = one_list text_cmp nat_list_cmp_total (IsNameOf xs s kinds.User) t.users u.users a.users b.users in
@@ -169,7 +178,8 @@ module _ (xs : List Item) (s : OptSet) where
         let constraints : AreConstraints xs s (names_in u) u.classes t.constraints =
         subst (λ (z : List Class). AreConstraints xs s (names_in u) z t.constraints) one_classes
         (constraints_moved xs s (names_in t) (names_in u) (λ part. same_sections_of part users roles types) t.classes t.constraints a.constraints) in
-        same_table t u users roles types (one_list alias_cmp alias_total (IsAlias xs s u.types) t.type_aliases u.type_aliases aliases b.type_aliases) one_classes
+        let levels : IsLevelTable xs s u.users t.levels = subst (λ z. IsLevelTable xs s z t.levels) users a.levels in
+        same_table t u (one_level_table xs s u.users declared t.levels u.levels levels b.levels) users roles types (one_list alias_cmp alias_total (IsAlias xs s u.types) t.type_aliases u.type_aliases aliases b.type_aliases) one_classes
         (one_list link_cmp link_total (IsLink xs s keywords.UserRole kinds.User kinds.Role u.users u.roles) t.user_roles u.user_roles user_roles b.user_roles)
         (one_list link_cmp link_total (IsLink xs s keywords.RoleType kinds.Role kinds.Type_ u.roles u.types) t.role_types u.role_types role_types b.role_types)
         (one_list link_cmp link_total (IsLink xs s keywords.RoleAllow kinds.Role kinds.Role u.roles u.roles) t.role_allows u.role_allows role_allows b.role_allows)

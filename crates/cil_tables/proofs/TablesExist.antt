@@ -47,7 +47,9 @@ use Rattle.cil_tables.proofs.FlatLemmas.{AreFlat, global_symbol, declared_here, 
 use Rattle.cil_names.specs.Resolves.{has_permission}
 use Rattle.cil_tables.specs.Aliases.{IsAlias}
 use Rattle.cil_tables.specs.Table.{Table, alias_cmp, boolean_names, link_cmp, link_total, one_link}
-use Rattle.cil_tables.proofs.NoGifts.{HaveFlatKeywords, no_alias}
+use Rattle.cil_level_rows.specs.NoLevels.{empty_table}
+use Rattle.cil_level_rows.proofs.NoLevels.{is_empty_table}
+use Rattle.cil_tables.proofs.NoGifts.{HaveFlatKeywords, no_alias, without_levels}
 use Rattle.cil_classes.specs.Row.{class_cmp}
 use Rattle.cil_rules.specs.Order.{rule_cmp, rule_total, one_rule}
 use Rattle.cil_classes.proofs.BitLemmas.{none_set, set_in_either, set_is_one}
@@ -281,6 +283,7 @@ module _ (xs : List Item) (plain : HaveFlatKeywords xs) where
         let booleans = names_of (IsNameOf xs nobody kinds.Boolean) (finite_names xs nobody kinds.Boolean) in
         let given = rules booleans.list booleans.lists types.list classes.0 classes.1 in (
           record {
+            levels = empty_table;
             users = users.list;
             roles = roles.list;
             types = types.list;
@@ -294,6 +297,7 @@ module _ (xs : List Item) (plain : HaveFlatKeywords xs) where
             constraints = [];
           },
           record {
+            levels = is_empty_table xs nobody (without_levels xs plain) users.list;
             users = users.lists;
             roles = roles.lists;
             types = types.lists;

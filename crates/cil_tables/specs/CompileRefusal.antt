@@ -8,6 +8,7 @@ use Rattle.cil_macros.specs.Item.{Item, OptSet}
 use Rattle.cil_names.specs.Faults.{ClashFault, ResolveFault}
 use Rattle.cil_optionals.specs.Greatest.{IsGreatest}
 use Rattle.cil_faults.specs.First.{AreFirst}
+use Rattle.cil_level_rows.specs.Steps.{LevelStep}
 use Rattle.cil_neverallow.specs.NeverFaults.{NeverFault}
 use Rattle.cil_tables.specs.SetsStep.{SetsFault}
 use Rattle.cil_tables.specs.Faults.{ArePolicyFaults}
@@ -19,7 +20,7 @@ CompileFails modules NoMemory = Unit {0}
 
 -- the steps over items whose words resolve, in the order in which they are taken
 abbrev pub later_steps : List Item → OptSet → List (Fault → Type 0)
-later_steps xs s = SetsFault s xs ∷ NeverFault xs s ∷ []
+later_steps xs s = SetsFault s xs ∷ LevelStep xs s ∷ NeverFault xs s ∷ []
 
 -- the faults of the first of them that has some
 abbrev pub LaterFail : List Item → OptSet → Failure → Type 0

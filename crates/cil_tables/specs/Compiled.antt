@@ -22,6 +22,7 @@ use Rattle.cil_rules.specs.Order.{rule_cmp}
 use Rattle.cil_rules.specs.Rule.{Rule}
 use Rattle.cil_classes.specs.ClassRows.{IsRowOf}
 use Rattle.cil_tables.specs.Links.{IsLink}
+use Rattle.cil_level_rows.specs.Rows.{IsLevelTable}
 use Rattle.cil_rules.specs.Records.{IsCase, IsRuleOf, spelled}
 
 -- the rules of enabled statements with this first word, by the sections of types, classes and booleans
@@ -41,6 +42,7 @@ AreConstraints xs s names classes constraints = Gives constraint_cmp (IsConstrai
 
 -- the tables of items, where these optionals are enabled
 pub record IsTable (xs : List Item) (s : OptSet) (t : Table) : Type 0 where
+  pub levels : IsLevelTable xs s t.users t.levels
   pub users : Lists text_cmp (IsNameOf xs s kinds.User) t.users
   pub roles : Lists text_cmp (IsNameOf xs s kinds.Role) t.roles
   pub types : Lists text_cmp (IsNameOf xs s kinds.Type_) t.types

@@ -11,6 +11,7 @@ use Rattle.cil_macros.specs.Items.{AreItems}
 use Rattle.cil_macros.specs.Item.{Item, OptSet}
 use Rattle.cil_optionals.specs.Policy.{ArePolicy}
 use Rattle.cil_faults.specs.First.{AreFirst}
+use Rattle.cil_level_rows.specs.Steps.{LevelStep}
 use Rattle.cil_neverallow.specs.NeverFaults.{NeverFault}
 use Rattle.cil_tables.specs.SetsStep.{SetsFault}
 
@@ -35,7 +36,7 @@ pub data OfPolicy (modules : List (List ℕ)) (step : List Item → OptSet → F
 abbrev pub steps : List (List ℕ) → List (Fault → Type 0)
 steps modules =
     ShapeFault modules ∷ OfProgram modules InheritStep ∷ OfStandings modules ExpandStep ∷ OfItems modules ClashFault ∷ OfPolicy modules (λ xs s. ResolveFault s xs)
-    ∷ OfPolicy modules (λ xs s. SetsFault s xs) ∷ OfPolicy modules NeverFault ∷ []
+    ∷ OfPolicy modules (λ xs s. SetsFault s xs) ∷ OfPolicy modules LevelStep ∷ OfPolicy modules NeverFault ∷ []
 
 -- the faults of modules
 abbrev pub ArePolicyFaults : List (List ℕ) → List Fault → Type 0

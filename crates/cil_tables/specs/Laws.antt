@@ -1,5 +1,5 @@
 -- Laws of policies: modules have one answer, tables or a list of faults. This project's profile.
-use Rattle.std.specs.Prelude.{◌≡◌, ℕ, ◌<◌, Bool, true, false, List, length}
+use Rattle.std.specs.Prelude.{◌≡◌, ℕ, ◌<◌, Bool, true, false, not, List, length}
 use Rattle.cil_faults.specs.declared.fault.Fault.{Fault}
 use Rattle.cil_syntax.specs.declared.kind.Keyword.{Keyword}
 use Rattle.cil_syntax.specs.declared.kind.Keyword.TheVariants as keywords
@@ -11,6 +11,7 @@ use Rattle.cil_known.specs.Family.{Family, IsRanked, Range, Solves}
 use Rattle.cil_known.specs.Spaces.{SpaceOf}
 use Rattle.cil_tables.specs.Agrees.{Compiles}
 use Rattle.cil_tables.specs.Faults.{ArePolicyFaults}
+use Rattle.cil_level_rows.specs.NoLevels.{is_of_levels}
 use Rattle.cil_tables.specs.Table.{Table, IsOrderly}
 
 -- modules compile to one table
@@ -28,7 +29,8 @@ pub data Outcome (modules : List (List ℕ)) : Type 0 where
   fails : (faults : List Fault) → ArePolicyFaults modules faults → 0 < length faults → Outcome modules
 
 -- what is neither a block, a macro or an optional, nor opens one; nor an alias, nor a statement that gives an alias or an attribute
--- its members, or a class permission or a permission of a class map what it stands for; nor a statement that forbids rules, nor a constraint
+-- its members, or a class permission or a permission of a class map what it stands for; nor a statement that forbids rules, nor a constraint, nor a
+-- statement of levels
 abbrev pub is_flat : Keyword → Bool
 is_flat keywords.Block = false
 is_flat keywords.BlockAbstract = false
@@ -42,16 +44,12 @@ is_flat keywords.TypeAliasActual = false
 is_flat keywords.TypeAttributeSet = false
 is_flat keywords.RoleAttributeSet = false
 is_flat keywords.UserAttributeSet = false
-is_flat keywords.SensitivityAlias = false
-is_flat keywords.SensitivityAliasActual = false
-is_flat keywords.CategoryAlias = false
-is_flat keywords.CategoryAliasActual = false
 is_flat keywords.ClassMapping = false
 is_flat keywords.ClassPermissionSet = false
 is_flat keywords.NeverAllow = false
 is_flat keywords.Constrain = false
 is_flat keywords.MlsConstrain = false
-is_flat keyword = true
+is_flat keyword = not (is_of_levels keyword)
 
 -- all that is written in the modules is such
 abbrev pub AreFlatModules : List (List ℕ) → Type 0
@@ -62,7 +60,7 @@ AreFlatModules modules = (w : Written) → IsWritten modules w → is_flat w.sta
 -- modules without aliases whose attributes have no members: with these it rests on a family of their members. And it is said of modules whose class
 -- permissions and class maps give nothing: with these it rests on the least assignment. Nor do they forbid anything: with that it
 -- rests on what two statements cover together being finite. And they have no constraints: with these it rests on the numbers for which the
--- words of each stand
+-- words of each stand. Nor have they levels: with these it rests on orders and on what sets of categories have
 abbrev pub AlwaysCompilesOrFails : Type 0
 AlwaysCompilesOrFails = (modules : List (List ℕ)) → AreReadable modules → AreFlatModules modules → Outcome modules
 

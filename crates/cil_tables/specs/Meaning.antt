@@ -1,10 +1,10 @@
 -- How the tables are read: which contexts they admit, and what they answer. The SELinux Notebook, "Security Context" and
 -- "Computing Access Decisions"; CIL Reference Guide, "Role Statements" on object_r, "roleallow", and "Constraint Statements".
-use Rattle.std.specs.Prelude.{◌≡◌, ◌⊎◌, ℕ, ◌==◌, Bool, List, [], ◌∷◌, codes, Contains, slice_get, Some}
-use Rattle.std.specs.List.{slice_split}
+use Rattle.std.specs.Prelude.{◌≡◌, ◌⊎◌, ℕ, Bool, true, List, codes, Contains, slice_get, Some}
 use Rattle.cil_constraints.specs.declared.expr.Context.{Context}
 use Rattle.cil_constraints.specs.Permitted.{AllMet}
-use Rattle.cil_mls.specs.Dominance.{no_level}
+use Rattle.cil_labels.specs.Labels.{BeginsWith}
+use Rattle.cil_labels.specs.LevelTable.{IsCleared, IsLabelOf}
 use Rattle.cil_classes.specs.declared.row.Class.{Class}
 use Rattle.cil_tables.specs.Table.{Table}
 use Rattle.cil_rules.specs.Covers.{HasCover}
@@ -13,33 +13,32 @@ use Rattle.cil_rules.specs.Covers.{HasCover}
 abbrev pub object_role : List ℕ
 object_role = codes "object_r"
 
--- the parts of a text between its colons
-abbrev pub parts_of : List ℕ → List (List ℕ)
-parts_of = slice_split (λ b. b == 58)
-
 -- ---- contexts
 
--- the role may stand in a context of the user and the type: the user has the role and the role has the type
-pub record HasBoth (t : Table) (n : Context) : Type 0 where
+-- the parts of a context may stand together: the user has the role, the role has the type, and where levels are on, those of the context
+-- are in the range of the user
+pub record StandTogether (t : Table) (n : Context) : Type 0 where
   pub role : Contains t.user_roles record { holder = n.user; held = n.role }
   pub kind : Contains t.role_types record { holder = n.role; held = n.kind }
+  pub cleared : t.levels.are_on ≡ true → IsCleared t.levels n.user n.low n.high
 
 -- the text names the type of this number: it is its name, or that of an alias of it
 abbrev pub IsTypeText : Table → List ℕ → ℕ → Type 0
 IsTypeText t text n = (slice_get t.types n ≡ Some text) ⊎ Contains t.type_aliases record { name = text; target = n }
 
--- the text `user:role:type` is the context of these numbers, and the context is valid. Its levels are off
+-- the text `user:role:type`, where levels are on with `:low` or `:low-high` behind it, is the context of these numbers and levels, and the
+-- context is valid
 pub record IsContext (t : Table) (text : List ℕ) (n : Context) : Type 0 where
   pub user : List ℕ
   pub role : List ℕ
   pub kind : List ℕ
-  pub parts : parts_of text ≡ user ∷ role ∷ kind ∷ []
+  pub rest : List ℕ
+  pub begins : BeginsWith text user role rest
+  pub label : IsLabelOf t.levels rest kind n.low n.high
   pub a_user : slice_get t.users n.user ≡ Some user
   pub a_role : slice_get t.roles n.role ≡ Some role
   pub a_type : IsTypeText t kind n.kind
-  pub admitted : (role ≡ object_role) ⊎ HasBoth t n
-  pub low : n.low ≡ no_level
-  pub high : n.high ≡ no_level
+  pub admitted : (role ≡ object_role) ⊎ StandTogether t n
 
 -- ---- classes and permissions
 

@@ -14,6 +14,7 @@ use Rattle.cil_rules.specs.Kept.{rule_named}
 use Rattle.cil_rules.specs.Records.{CaseBy, IsRuleOf, spelled}
 use Rattle.cil_index.specs.declared.section.NamedRules.{NamedRules}
 use Rattle.cil_known.specs.declared.numbers.Sections.{Sections}
+use Rattle.cil_labels.specs.LevelTable.{LevelTable}
 use Rattle.cil_tables.specs.declared.sections.Given.{Given}
 use Rattle.cil_tables.specs.declared.tables.Boolean.{Boolean}
 use Rattle.cil_tables.specs.Compiled.{AreConstraints, AreRules}
@@ -42,8 +43,9 @@ pub record AreNamedRules (xs : List Item) (s : OptSet) (types : List (List ℕ))
   pub dontaudit : AreNamedRulesOf xs s types classes booleans branches sets keywords.DontAudit r.dontaudit.items
 
 -- the sections, as a table
-abbrev pub table_from : Sections → List Class → List Boolean → Given → Table
-table_from names classes booleans given = record {
+abbrev pub table_from : Sections → List Class → List Boolean → Given → LevelTable → Table
+table_from names classes booleans given levels = record {
+  levels = levels;
   users = names.users.items;
   roles = names.roles.items;
   types = names.types.items;

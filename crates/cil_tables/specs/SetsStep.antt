@@ -1,4 +1,4 @@
--- What is wrong with the aliases, attributes, classes and booleans of a policy: the faults of one step. This project's profile.
+-- What is wrong with the aliases, attributes, classes, booleans and orders of a policy: the faults of one step. This project's profile.
 use Rattle.std.specs.Prelude.{◌⊎◌, List}
 use Rattle.cil_faults.specs.declared.fault.Fault.{Fault}
 use Rattle.cil_syntax.specs.declared.kind.Kind.TheVariants as kinds
@@ -6,6 +6,7 @@ use Rattle.cil_macros.specs.Item.{Item, OptSet}
 use Rattle.cil_known.specs.Members.{space_of}
 use Rattle.cil_attrs.specs.SetFaults.{SetFault}
 use Rattle.cil_classes.specs.Faults.{ClassFault}
+use Rattle.cil_mls.specs.OrderFaults.{OrderFault}
 use Rattle.cil_tables.specs.Booleans.{HasManyBooleans}
 
 -- the faults of aliases and attributes, and of how many items there are: of users, roles and types
@@ -13,4 +14,4 @@ abbrev pub MembersFault : OptSet → List Item → Fault → Type 0
 MembersFault s xs f = SetFault xs s (space_of kinds.User) f ⊎ (SetFault xs s (space_of kinds.Role) f ⊎ SetFault xs s (space_of kinds.Type_) f)
 
 abbrev pub SetsFault : OptSet → List Item → Fault → Type 0
-SetsFault s xs f = ClassFault s xs f ⊎ (MembersFault s xs f ⊎ HasManyBooleans s xs f)
+SetsFault s xs f = ClassFault s xs f ⊎ (MembersFault s xs f ⊎ (HasManyBooleans s xs f ⊎ OrderFault xs s f))

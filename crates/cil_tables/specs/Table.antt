@@ -15,6 +15,7 @@ use Rattle.cil_tables.specs.declared.tables.Alias.{Alias}
 use Rattle.cil_tables.specs.declared.tables.Link.{Link}
 use Rattle.cil_tables.specs.declared.tables.Boolean.{Boolean}
 use Rattle.cil_index.specs.Sections.{RuleSections}
+use Rattle.cil_labels.specs.LevelTable.{LevelTable}
 use Rattle.cil_classes.specs.Row.{IsOrderlyClass, class_cmp}
 use Rattle.cil_constraints.specs.declared.mask.Constraint.{Constraint}
 use Rattle.cil_constraints.specs.Order.{constraint_cmp}
@@ -22,6 +23,7 @@ use Rattle.cil_syntax.specs.declared.kind.Kind.{Kind}
 use Rattle.cil_syntax.specs.declared.kind.Kind.TheVariants as kinds
 
 pub record Table : Type 0 where
+  pub levels : LevelTable
   pub users : List (List ℕ)
   pub roles : List (List ℕ)
   pub types : List (List ℕ)

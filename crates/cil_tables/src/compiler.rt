@@ -12,6 +12,9 @@ ghost use Rattle.cil_known.specs.Numbers.{AreApart, ArePlainNames, names_of};
 ghost use Rattle.cil_names.specs.PermissionWords.{meanings};
 ghost use Rattle.cil_names.specs.Rows.{IsTableOf};
 ghost use Rattle.cil_names.specs.Shared.{AreShared};
+ghost use Rattle.cil_names.specs.Faults.{ClashFault};
+ghost use Rattle.cil_faults.specs.declared.fault.Fault.{Fault as AFault};
+ghost use Rattle.cil_mls.specs.OrderFaults.{AreOrders};
 ghost use Rattle.cil_names.specs.Unresolved.{ArePermissions};
 ghost use Rattle.cil_optionals.specs.Lines.{AreOptionalsOf, AreReasonsOf};
 ghost use Rattle.cil_tables.specs.CompileAnswer.{IsCompiled, IsCompiledOf, StandsIn};
@@ -34,7 +37,9 @@ use cil_classes::{Classes, classes};
 use cil_declare::declare;
 use cil_faults::{Both, Failure, together};
 use cil_known::{Known, Numbering, Sections, numbered};
+use cil_level_rows::labels_of;
 use cil_macros::{Instances, expand};
+use cil_mls::{Orders, orders};
 use cil_modset::ModuleSet;
 use cil_names::{Lookup, Names as DeclaredNames, Shared, Words, commons_of, permissions_of};
 use cil_optionals::{
@@ -62,7 +67,8 @@ pub struct Compiled {
 /// stated order. (CIL Reference Guide.)
 ///
 /// Errors: the faults of the first step that has some (shape, blocks, calls, the limit of instances, clashing declarations,
-/// unresolved words outside optionals, aliases, attributes, classes and booleans, rules that the policy forbids itself), or out of memory.
+/// unresolved words outside optionals, aliases, attributes, classes, booleans and orders, levels, rules that the policy forbids itself), or
+/// out of memory.
 pub fn compile(alloc: Global, modules: &ModuleSet) -> Result<Compiled, Failure>
     ensures compiled { IfOk result (IsCompiled modules.now) }
     ensures faults { IfErr result (CompileFails modules.now) }
@@ -77,7 +83,7 @@ pub fn compile(alloc: Global, modules: &ModuleSet) -> Result<Compiled, Failure>
 /// What all that stands compiles to.
 ///
 /// Errors: the faults of the first step that has some (calls, the limit of instances, clashing declarations, unresolved words
-/// outside optionals, aliases, attributes, booleans and classes, forbidden rules), or out of memory.
+/// outside optionals, aliases, attributes, booleans, classes and orders, levels, forbidden rules), or out of memory.
 fn standing_policy(alloc: Global, stands: &Spaces) -> Result<Compiled, Failure>
     requires standings { AreStandings stands.now }
     requires nested { IsNested (statements_in stands.now) }
@@ -93,7 +99,7 @@ fn standing_policy(alloc: Global, stands: &Spaces) -> Result<Compiled, Failure>
 /// What all that is placed compiles to.
 ///
 /// Errors: the faults of the first step that has some (clashing declarations, unresolved words outside optionals, aliases,
-/// attributes, booleans and classes, forbidden rules), or out of memory.
+/// attributes, booleans, classes and orders, levels, forbidden rules), or out of memory.
 fn placed_policy(alloc: Global, instances: &Instances) -> Result<Compiled, Failure>
     requires { (es : List AnEntry) → AreEntries (namespaces_in instances.now) (items_in instances.now) es → ArePlainNames (namespaces_in instances.now) es }
     ensures compiled { IfOk result (IsCompiledOf (items_in instances.now)) }
@@ -113,8 +119,8 @@ fn placed_policy(alloc: Global, instances: &Instances) -> Result<Compiled, Failu
 
 /// What all that is placed compiles to, by its names, which no declarations clash over.
 ///
-/// Errors: the faults of the first step that has some (unresolved words outside optionals, aliases, attributes, booleans and classes,
-/// forbidden rules), or out of memory.
+/// Errors: the faults of the first step that has some (unresolved words outside optionals, aliases, attributes, booleans, classes and
+/// orders, levels, forbidden rules), or out of memory.
 fn named_policy<'a>(
     alloc: Global,
     instances: &Instances<'_, '_, 'a>,
@@ -135,7 +141,8 @@ fn named_policy<'a>(
 
 /// What all that is placed compiles to, where these optionals are in force and its words have these meanings.
 ///
-/// Errors: the faults of the first step that has some (aliases, attributes, booleans and classes, forbidden rules), or out of memory.
+/// Errors: the faults of the first step that has some (aliases, attributes, booleans, classes and orders, levels, forbidden rules), or out of
+/// memory.
 fn chosen_policy(
     alloc: Global,
     instances: &Instances,
@@ -192,8 +199,8 @@ fn lines_of(alloc: Global, instances: &Instances, chosen: &Chosen) -> Result<Lin
 /// The tables of all that is placed, where its words have these meanings, and these are the classes and commons that statements
 /// join.
 ///
-/// Errors: the faults of aliases, attributes, classes and booleans together, or those of rules that the policy forbids itself; or out of
-/// memory.
+/// Errors: the faults of aliases, attributes, classes, booleans and orders together, or those of levels, or those of rules that the policy
+/// forbids itself; or out of memory.
 fn tables_of(
     alloc: Global,
     instances: &Instances,
@@ -207,6 +214,7 @@ fn tables_of(
     requires permissions { ArePermissions lookup.now.namespaces.now lookup.now.names.now (items_in instances.now) permissions.now }
     requires shared { AreShared (namespaces_in instances.now) lookup.now.names.now (items_in instances.now) shared.now }
     requires plain { ArePlainNames lookup.now.namespaces.now lookup.now.names.now }
+    requires clashes { (f : AFault) → ClashFault (items_in instances.now) f → ⊥ }
     requires table { IsTableOf (map (meanings lookup.now.namespaces.now lookup.now.names.now permissions.now (is_in lookup.now.enabled.now)) (items_in instances.now)) words.now }
     ensures tables { IfOk result (λ tables. IsTable (items_in instances.now) (is_in lookup.now.enabled.now) tables × AreFirst (later_steps (items_in instances.now) (is_in lookup.now.enabled.now)) []) }
     ensures faults { IfErr result (LaterFail (items_in instances.now) (is_in lookup.now.enabled.now)) }
@@ -227,23 +235,28 @@ fn tables_of(
     } = judged;
     let Both {
         first: stand,
-        second: _,
+        second: rest,
     } = others;
+    let sections = &numbering.sections;
+    let levels = labels_of(alloc, instances, &known, sections, &rest.second)?;
     let rows = classes.rows.as_slice();
-    let filled = fill_sections(alloc, instances, &known, &numbering.sections, &stand, rows)?;
-    Ok(tables_from(numbering, classes, filled))
+    let filled = fill_sections(alloc, instances, &known, sections, &stand, rows)?;
+    Ok(tables_from(numbering, classes, filled, levels))
 }
 
-/// The classes of a policy, and what its words stand for.
+/// What is known of a policy before its levels are: its classes, what its words stand for, and its orders.
+type JudgedSets = Both<Classes, Both<Standings, Both<(), Orders>>>;
+
+/// The classes of a policy, what its words stand for, and its orders of sensitivities and categories.
 ///
-/// Errors: the faults of aliases, attributes, classes and booleans together, or out of memory.
+/// Errors: the faults of aliases, attributes, classes, booleans and orders together, or out of memory.
 fn judged_sets(
     alloc: Global,
     instances: &Instances,
     known: &Known,
     numbering: &Numbering,
     shared: &[Shared],
-) -> Result<Both<Classes, Both<Standings, ()>>, Failure>
+) -> Result<JudgedSets, Failure>
     requires namespaces { known.now.lookup.namespaces.now ≡ namespaces_in instances.now }
     requires shared { AreShared (namespaces_in instances.now) known.now.lookup.names.now (items_in instances.now) shared.now }
     requires table { IsTableOf (map (row_in known.now) (items_in instances.now)) known.now.words.now }
@@ -251,7 +264,9 @@ fn judged_sets(
     requires numbers { known.now.numbers.now ≡ numbering.now.numbers.items }
     requires apart { AreApart known.now.lookup.names.now (enabled_in known.now) known.now.numbers.now }
     ensures { Answers (λ both. AreRowsOf known.now.lookup.namespaces.now known.now.lookup.names.now (enabled_in known.now) known.now.permissions.now numbering.now.sections.classes.items both.first.rows.items
-        × (AllStand known.now (items_in instances.now) (names_of numbering.now.sections) both.second.first × (length numbering.now.sections.booleans.items ≤ most_booleans)))
+        × (AllStand known.now (items_in instances.now) (names_of numbering.now.sections) both.second.first
+        × ((length numbering.now.sections.booleans.items ≤ most_booleans)
+        × AreOrders (items_in instances.now) (enabled_in known.now) numbering.now.sections.sensitivities.items numbering.now.sections.categories.items both.second.second.second)))
         (SetsFault (enabled_in known.now) (items_in instances.now)) result }
 {
     let rows = classes(
@@ -264,6 +279,8 @@ fn judged_sets(
     );
     let standings = standings_of(alloc, instances, known, &numbering.sections);
     let few = check_booleans(alloc, numbering.sections.booleans.as_slice());
-    let others = together(standings, few);
+    let ordered = orders(alloc, instances, known, &numbering.sections);
+    let counted = together(few, ordered);
+    let others = together(standings, counted);
     together(rows, others)
 }

@@ -24,6 +24,7 @@ use cil_base::Names;
 use cil_classes::{Class, Classes, given_permissions};
 use cil_faults::Failure;
 use cil_known::{Known, Numbering, Sections};
+use cil_labels::Labels;
 use cil_macros::Instances;
 use std::alloc::Global;
 
@@ -66,9 +67,14 @@ pub(crate) fn fill_sections(
 }
 
 /// The tables of these sections.
-pub(crate) fn tables_from(numbering: Numbering, classes: Classes, filled: Filled) -> Tables
-    requires { IsOrderly (table_from numbering.sections classes.rows.items filled.booleans.items filled.given) }
-    ensures { result ≡ table_from numbering.sections classes.rows.items filled.booleans.items filled.given }
+pub(crate) fn tables_from(
+    numbering: Numbering,
+    classes: Classes,
+    filled: Filled,
+    levels: Labels,
+) -> Tables
+    requires { IsOrderly (table_from numbering.sections classes.rows.items filled.booleans.items filled.given levels) }
+    ensures { result ≡ table_from numbering.sections classes.rows.items filled.booleans.items filled.given levels }
 {
     let Numbering {
         sections,
@@ -94,6 +100,7 @@ pub(crate) fn tables_from(numbering: Numbering, classes: Classes, filled: Filled
         constraints,
     } = given;
     Tables {
+        levels,
         users: Names::from_vec(users),
         roles: Names::from_vec(roles),
         types: Names::from_vec(types),

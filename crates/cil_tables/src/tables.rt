@@ -13,6 +13,7 @@ use cil_base::{Bytes, Names};
 use cil_classes::Class;
 use cil_constraints::Constraint;
 use cil_index::Sections;
+use cil_labels::Labels;
 use std::cmp::Ordering;
 use std::marker::Model;
 
@@ -127,6 +128,7 @@ pub struct Boolean {
 /// The tables of a policy.
 #[derive(Debug, Drop)]
 pub struct Tables {
+    pub(crate) levels: Labels,
     pub(crate) users: Names,
     pub(crate) roles: Names,
     pub(crate) types: Names,
@@ -146,6 +148,7 @@ impl Model for Tables {
     ghost Value = { Table };
 
     ghost view = { λ a. record {
+      levels = a.levels;
       users = a.users;
       roles = a.roles;
       types = a.types;
@@ -160,6 +163,7 @@ impl Model for Tables {
     } };
 
     ghost invariant = { λ a. IsOrderly record {
+      levels = a.levels;
       users = a.users;
       roles = a.roles;
       types = a.types;
@@ -177,6 +181,13 @@ impl Model for Tables {
 impl Tables {
     ghost use Rattle.std.specs.Prelude.{◌≡◌};
     ghost use Rattle.cil_tables.specs.Table.{IsOrderly};
+
+    /// Sensitivities, categories and the ranges of users.
+    pub fn levels(&self) -> &Labels
+        ensures levels { result.now ≡ self.now.levels }
+    {
+        &self.levels
+    }
 
     /// The names of the users, in byte order.
     pub fn users(&self) -> &[Bytes]

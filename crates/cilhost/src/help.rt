@@ -13,11 +13,14 @@ context has on an object in another. The answers do not depend on the order of t
 cilhost accepts the statements type, class, common, classcommon, role, user, roletype, userrole,
 roleallow, constrain, allow, auditallow, dontaudit, neverallow, boolean and booleanif; block,
 blockabstract, blockinherit, macro, call and optional; typealias, typealiasactual, typeattribute,
-typeattributeset, roleattribute, roleattributeset, userattribute and userattributeset; and classmap,
-classmapping, classpermission and classpermissionset. Of typetransition, typechange, typemember,
-roletransition, expandtypeattribute and classorder the names are checked, and they have no effect.
+typeattributeset, roleattribute, roleattributeset, userattribute and userattributeset; classmap,
+classmapping, classpermission and classpermissionset; and of levels (MLS) mls, sensitivity,
+sensitivityalias, sensitivityaliasactual, sensitivityorder, sensitivitycategory, category,
+categoryalias, categoryaliasactual, categoryorder, categoryset, level, levelrange, userrange and
+mlsconstrain. Of typetransition, typechange, typemember, roletransition, rangetransition, userlevel,
+expandtypeattribute and classorder the names and levels are checked, and they have no effect.
 Statements that label files, ports and the like, such as filecon, and settings, such as policycap,
-are accepted and have no effect. For now it refuses everything else in CIL by name, with fault 22.";
+are accepted and have no effect. It refuses everything else in CIL by name, with fault 22.";
 
 /// How the program is called.
 pub const EXAMPLE: &str = "Example:
@@ -38,11 +41,14 @@ and each reply is written to standard output, until QUIT or the end of the input
 A FILE may have the statements type, class, common, classcommon, role, user, roletype, userrole,
 roleallow, constrain, allow, auditallow, dontaudit, neverallow, boolean and booleanif; block,
 blockabstract, blockinherit, macro, call and optional; typealias, typealiasactual, typeattribute,
-typeattributeset, roleattribute, roleattributeset, userattribute and userattributeset; and classmap,
-classmapping, classpermission and classpermissionset. Of typetransition, typechange, typemember,
-roletransition, expandtypeattribute and classorder the names are checked, and they have no effect.
+typeattributeset, roleattribute, roleattributeset, userattribute and userattributeset; classmap,
+classmapping, classpermission and classpermissionset; and of levels (MLS) mls, sensitivity,
+sensitivityalias, sensitivityaliasactual, sensitivityorder, sensitivitycategory, category,
+categoryalias, categoryaliasactual, categoryorder, categoryset, level, levelrange, userrange and
+mlsconstrain. Of typetransition, typechange, typemember, roletransition, rangetransition, userlevel,
+expandtypeattribute and classorder the names and levels are checked, and they have no effect.
 Statements that label files, ports and the like, such as filecon, and settings, such as policycap,
-are accepted and have no effect. For now LOAD refuses everything else in CIL by name, with fault 22.";
+are accepted and have no effect. LOAD refuses everything else in CIL by name, with fault 22.";
 
 /// What a file is.
 pub const FILE: &str = "A module, as text in CIL, of at most 4194304 bytes";
@@ -117,10 +123,12 @@ pub const REQUESTS: &str = "Requests:
                           the policy is the one that was loaded before
   AV source target class  What a process in the context source may do to an object of this class
                           in the context target. A context is user:role:type, where a type t of
-                          block b is b.t, and an alias stands for its type. Reply: OK, then the
-                          permissions that are allowed, those audited when allowed, and those
-                          audited when denied (- for none), or ERR. Nothing is allowed for which a
-                          constraint is false, nor a change of role that no roleallow lets
+                          block b is b.t, and an alias stands for its type. With (mls true) in the
+                          policy a level follows, or a low and a high one, as in u:r:t:s0 and
+                          u:r:t:s0-s1:c0.c3,c5. Reply: OK, then the permissions that are allowed,
+                          those audited when allowed, and those audited when denied (- for none),
+                          or ERR. Nothing is allowed for which a constraint is false, nor a change
+                          of role that no roleallow lets
   CHECK source target class permission
                           Whether AV of the first three lists this permission as allowed. Reply:
                           OK yes, OK no, or ERR
@@ -167,11 +175,19 @@ Faults of a policy, one a line after FAULTS: NUMBER MODULE PLACE NAMESPACE WORD
   51  an alias without a target
   52  an alias with two different targets
   53  an alias that leads to itself, in one or more steps
-  54  an attribute that depends on itself, in one or more steps
+  54  an attribute, or a set of categories, that depends on itself, in one or more steps
   55  a class of more than 32 permissions
   56  a class with two different commons
-  60  more than 65535 types, 1024 classes, or 4096 roles, users or booleans: WORD says which. It has
-      module 0 and place 0
+  57  the sensitivityorder statements leave the sensitivities more than one order, or none
+  58  the categoryorder statements leave the categories more than one order, or none
+  59  mls both true and false. Like 57 and 58 it has module 0, place 0 and - as the word
+  60  more than 65535 types, 1024 classes, 4096 roles, users or booleans, 256 sensitivities or 1024
+      categories: WORD says which. It has module 0 and place 0
+  61  a level with a category that no sensitivitycategory permits to its sensitivity
+  62  a range whose high level does not dominate its low one, or a range of categories of which the
+      second is before the first
+  63  a user without a userrange, where mls is true
+  64  a user with two different ranges
   65  a neverallow and an allow that cover the same, in whatever branches, at the neverallow. WORD
       is the module and place of the allow, and a source, target, class and permission that both
       cover, joined by colons

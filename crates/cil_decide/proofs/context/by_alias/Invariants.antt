@@ -3,4 +3,4 @@ use Rattle.cil_decide.proofs.ContextParts.{NoneOf}
 use Rattle.cil_decide.proofs.context.by_alias.Given as goal
 
 abbrev pub invariant-loop-alias : goal.invariant-loop-alias
-invariant-loop-alias l = NoneOf l.tables l.parts.role.now l.parts.kind.now l.user l.role (take l.alias-index l.alias-items)
+invariant-loop-alias l = NoneOf l.tables l.names.role.now l.names.kind.now l.bearer (take l.alias-index l.alias-items)

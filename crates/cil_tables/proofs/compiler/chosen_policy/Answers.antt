@@ -32,6 +32,9 @@ tables_of-requires-clause-table c =
     subst (λ (z : List Space). IsTableOf (map (meanings z c.args.names.now c.args.permissions.now (is_in c.args.chosen.enabled)) (items_in c.args.instances.now)) c.args.words.now)
     (sym c.namespaces.ensures.value) c.requires.table
 
+pub tables_of-requires-clause-clashes : goal.tables_of-requires-clause-clashes
+tables_of-requires-clause-clashes c = c.requires.named.apart
+
 pub lines_of-requires : goal.lines_of-requires
 lines_of-requires c = c.requires.chosen
 

@@ -22,4 +22,6 @@ returns c =
     let few = c.check_booleans-few.ensures (items_in c.args.instances.now) (enabled_in c.args.known.now) (subst (Lists text_cmp (IsNameOf (items_in c.args.instances.now) (enabled_in c.args.known.now) kinds.Boolean)) (sym c.as_slice.ensures.value) names) in
     let counted = subst (λ (l : List (List ℕ)). Answers (λ done. length l ≤ most_booleans) (HasManyBooleans (enabled_in c.args.known.now) (items_in c.args.instances.now)) c.check_booleans-few.result)
     c.as_slice.ensures.value few in
-    answers_both _ _ _ _ _ _ _ c.together.ensures c.classes-rows.ensures (answers_both _ _ _ _ _ _ _ c.together-others.ensures c.standings_of-standings.ensures counted)
+    answers_both _ _ _ _ _ _ _ c.together.ensures c.classes-rows.ensures
+    (answers_both _ _ _ _ _ _ _ c.together-others.ensures c.standings_of-standings.ensures
+    (answers_both _ _ _ _ _ _ _ c.together-counted.ensures counted c.orders-ordered.ensures))

@@ -13,7 +13,7 @@ use Rattle.cil_classes.specs.ClassRows.{AreClasses}
 use Rattle.cil_classes.specs.Row.{AreOrderlyRows}
 use Rattle.cil_known.specs.Known.{AreKnown}
 use Rattle.cil_tables.specs.CompileRefusal.{LaterFail}
-use Rattle.cil_tables.proofs.CompileLemmas.{forbidden_fail, handed_on}
+use Rattle.cil_tables.proofs.CompileLemmas.{forbidden_fail, handed_on, levels_first}
 use Rattle.cil_tables.proofs.JoinLemmas.{table_of}
 use Rattle.cil_tables.proofs.NamedLemmas.{classes_are, classes_given, classes_rise, names_are, rows_orderly}
 use Rattle.cil_tables.proofs.compiler.tables_of.Goals as goal
@@ -43,6 +43,35 @@ judged_sets-requires-clause-numbers c = c.as_slice.ensures.value
 
 pub judged_sets-requires-clause-apart : goal.judged_sets-requires-clause-apart
 judged_sets-requires-clause-apart c = subst (AreApart c.args.lookup.now.names.now (is_in c.args.lookup.now.enabled.now)) (sym c.as_slice.ensures.value) (c.in_ok-numbering.ensures.apart c.requires.plain)
+
+pub labels_of-requires-clause-namespaces : goal.labels_of-requires-clause-namespaces
+labels_of-requires-clause-namespaces c = c.requires.namespaces
+
+pub labels_of-requires-clause-orders : goal.labels_of-requires-clause-orders
+labels_of-requires-clause-orders c = c.in_ok-judged.ensures.0.1.1.1
+
+pub labels_of-requires-clause-none : goal.labels_of-requires-clause-none
+labels_of-requires-clause-none c = λ f o. c.in_ok-judged.ensures.1 f (inr (inr (inr o)))
+
+pub labels_of-requires-clause-known : goal.labels_of-requires-clause-known
+labels_of-requires-clause-known c =
+    let known : AreKnown c.args.lookup.now.namespaces.now (items_in c.args.instances.now) c.args.lookup.now.names.now (is_in c.args.lookup.now.enabled.now) (names_of c.in_ok-numbering.numbering.sections) c.as_slice.result.now c.args.permissions.now =
+    record {
+      namespaces = c.are_namespaces.ensures;
+      entries = c.requires.entries;
+      numbered = subst (AreNumbers c.args.lookup.now.namespaces.now c.args.lookup.now.names.now (is_in c.args.lookup.now.enabled.now) (names_of c.in_ok-numbering.numbering.sections)) (sym c.as_slice.ensures.value) c.in_ok-numbering.ensures.numbers;
+      permissions = c.requires.permissions;
+    } in
+    known
+
+pub labels_of-requires-clause-numbers : goal.labels_of-requires-clause-numbers
+labels_of-requires-clause-numbers c = subst (AreApart c.args.lookup.now.names.now (is_in c.args.lookup.now.enabled.now)) (sym c.as_slice.ensures.value) (c.in_ok-numbering.ensures.apart c.requires.plain)
+
+pub labels_of-requires-clause-table : goal.labels_of-requires-clause-table
+labels_of-requires-clause-table c = c.requires.table
+
+pub labels_of-requires-clause-apart : goal.labels_of-requires-clause-apart
+labels_of-requires-clause-apart c = c.requires.clashes
 
 pub fill_sections-requires-clause-namespaces : goal.fill_sections-requires-clause-namespaces
 fill_sections-requires-clause-namespaces c = c.requires.namespaces
@@ -89,7 +118,7 @@ tables_from-requires c =
       types = (c.in_ok-numbering.ensures.numbers.lists kinds.Type_ refl).rising;
       booleans = subst (IsStrictlySortedBy text_cmp) (sym filled.booleans) (c.in_ok-numbering.ensures.numbers.lists kinds.Boolean refl).rising;
       few_booleans =
-          let few = c.in_ok-judged.ensures.0.1.1 in
+          let few = c.in_ok-judged.ensures.0.1.1.0 in
           let len = length-map c.in_ok-filled.filled.booleans.items (λ (b : Boolean). b.name) in
           let same = ap length filled.booleans in
           omega (arith, few, len, same);
@@ -102,10 +131,15 @@ tables_from-requires c =
       each_class = rows_orderly c.args.lookup.now.namespaces.now (items_in c.args.instances.now) c.args.lookup.now.names.now c.requires.entries (is_in c.args.lookup.now.enabled.now) c.in_ok-numbering.numbering.sections c.in_ok-numbering.numbering.numbers.items c.in_ok-numbering.ensures.numbers (c.in_ok-numbering.ensures.apart c.requires.plain) c.args.permissions.now c.requires.permissions c.in_ok-judged.judged.first.rows.items c.in_ok-judged.ensures.0.0 (λ f e. c.in_ok-judged.ensures.1 f (inl e));
     }
 
+pub returns-in_err-levels-clause-faults : goal.returns-in_err-levels-clause-faults
+returns-in_err-levels-clause-faults c =
+    handed_on (LaterFail (items_in c.args.instances.now) (is_in c.args.lookup.now.enabled.now)) _ _ c.from_residual-in_err-levels.ensures.1
+    (levels_first (items_in c.args.instances.now) (is_in c.args.lookup.now.enabled.now) c.in_ok-judged.ensures.1 _ c.in_err-levels.ensures)
+
 pub returns-in_err-filled-clause-faults : goal.returns-in_err-filled-clause-faults
 returns-in_err-filled-clause-faults c =
     handed_on (LaterFail (items_in c.args.instances.now) (is_in c.args.lookup.now.enabled.now)) _ _ c.from_residual-in_err-filled.ensures.1
-    (forbidden_fail (items_in c.args.instances.now) (is_in c.args.lookup.now.enabled.now) c.in_ok-judged.ensures.1 _ c.in_err-filled.ensures)
+    (forbidden_fail (items_in c.args.instances.now) (is_in c.args.lookup.now.enabled.now) c.in_ok-judged.ensures.1 c.in_ok-levels.ensures.1 _ c.in_err-filled.ensures)
 
 pub returns-clause-tables : goal.returns-clause-tables
 returns-clause-tables c =
@@ -113,7 +147,7 @@ returns-clause-tables c =
     let filled = c.in_ok-filled.ensures.0 in
     let given = filled.given in (
       subst (IsTable (items_in c.args.instances.now) (is_in c.args.lookup.now.enabled.now)) (sym c.tables_from.ensures)
-          (table_of (items_in c.args.instances.now) (is_in c.args.lookup.now.enabled.now) (names_of c.in_ok-numbering.numbering.sections) _ _ _ _ c.in_ok-judged.judged.first.rows.items c.in_ok-filled.filled.booleans.items _ _ _ _ _
+          (table_of (items_in c.args.instances.now) (is_in c.args.lookup.now.enabled.now) (names_of c.in_ok-numbering.numbering.sections) _ _ _ _ c.in_ok-judged.judged.first.rows.items c.in_ok-filled.filled.booleans.items _ _ _ _ _ _
           refl refl refl
           (names kinds.User _ (c.in_ok-numbering.ensures.numbers.lists kinds.User refl)) (names kinds.Role _ (c.in_ok-numbering.ensures.numbers.lists kinds.Role refl))
           (names kinds.Type_ _ (c.in_ok-numbering.ensures.numbers.lists kinds.Type_ refl))
@@ -123,6 +157,7 @@ returns-clause-tables c =
           (subst (λ (rows : List Class). AreRules (items_in c.args.instances.now) (is_in c.args.lookup.now.enabled.now) (names_of c.in_ok-numbering.numbering.sections kinds.Type_) rows (names_of c.in_ok-numbering.numbering.sections kinds.Boolean) c.in_ok-filled.filled.given.rules)
           c.as_slice-rows.ensures.value given.rules)
           (subst (λ (rows : List Class). AreConstraints (items_in c.args.instances.now) (is_in c.args.lookup.now.enabled.now) (names_of c.in_ok-numbering.numbering.sections) rows c.in_ok-filled.filled.given.constraints.items)
-          c.as_slice-rows.ensures.value given.constraints)),
-      inr (c.in_ok-judged.ensures.1, inr (c.in_ok-filled.ensures.1, refl)),
+          c.as_slice-rows.ensures.value given.constraints)
+          c.in_ok-levels.ensures.0),
+      inr (c.in_ok-judged.ensures.1, inr (c.in_ok-levels.ensures.1, inr (c.in_ok-filled.ensures.1, refl))),
     )

@@ -21,6 +21,7 @@ invariant_of-result c = record {
 
 pub returns : goal.returns
 returns c = λ i. record {
+  levels = c.args.levels;
   users = c.from_vec.ensures i;
   roles = c.from_vec-2.ensures i;
   types = c.from_vec-3.ensures i;
