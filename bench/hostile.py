@@ -207,7 +207,7 @@ def constraints(size):
 
 
 def alike_heads(size):
-    """Constraints that begin like several comparisons, up to the last word. They are not supported yet (22)."""
+    """Constraints that begin like several comparisons, up to the last word (23)."""
     return filled(size, "", "(mlsconstrain a(dom r1 r1))", "")
 
 

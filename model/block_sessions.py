@@ -2,6 +2,7 @@
 import constraints
 from block_policies import NAMES, Draft
 from faults import printed
+from level_texts import range_text
 from pieces import bundle_of, import_bundle, install, often
 from policy import CHANGES, PROCESS
 from rules import targets_of
@@ -15,7 +16,7 @@ MOST_OF_A_RULE = 3
 
 # So many constraints of a policy are asked for, and so many pairs of contexts are tried for one of them.
 MOST_CONSTRAINTS = 5
-MOST_TRIED = 4
+MOST_TRIED = 6
 
 
 def blocks(rng):
@@ -178,17 +179,21 @@ def of_constraints(rng, policy):
                 source = rng.choice(sorted(rule.sources))
                 targets = sorted(targets_of(rule, source))
                 ends = [some_context(rng, policy, of) for of in (source, rng.choice(targets))] if targets else [None]
-                if all(ends):
-                    is_true = constraints.holds(each.asked, constraints.ends(*ends), policy.sets)
-                    found[is_true] = b"AV %s %s %s\n" % (*map(b":".join, ends), class_name)
+                parts = [end and policy.parts_of(end) for end in ends]
+                if all(parts):
+                    is_true = constraints.holds(each.asked, constraints.ends(*parts), policy.sets)
+                    found[is_true] = b"AV %s %s %s\n" % (*ends, class_name)
             made += found.values()
     return made
 
 
 def some_context(rng, policy, type_name):
-    """A valid context of a type, as its user, role and type, or nothing: more often of a role that has a few types."""
+    """A context of a type, which is valid but for its levels, or nothing: more often of a role that has a few types."""
     found = contexts_by_pairs(policy, type_name) * 2 + contexts_of_object_role(policy, type_name)
-    return rng.choice(found) if found else None
+    if not found:
+        return None
+    user, role, _ = made = rng.choice(found)
+    return b":".join([*made, range_text(rng, policy, user, role)] if policy.levels.is_on else made)
 
 
 # ---- over a million instances

@@ -2,12 +2,14 @@
 import collections
 
 from faults import printed
+from levels import COMPARED
 
 # A constraint: its pairs of the printed name of a class and a permission, and what it asks.
 Constraint = collections.namedtuple("Constraint", "pairs asked")
 
-# The name spaces of the variables, by their first letters, in the order in which a context has them.
+# What the variables stand for, by their first letters, in the order in which a context has it: name spaces, and levels.
 PARTS = (b"u", b"r", b"t")
+LEVELS = (b"l", b"h")
 
 
 def constraint_of(instance, permissions):
@@ -17,9 +19,10 @@ def constraint_of(instance, permissions):
 
 
 def ends(source, target):
-    """What the variables stand for, of two contexts as their users, roles and types."""
+    """What the variables stand for, of two contexts as their users, roles, types and levels."""
     return {
-        part + number: name for number, context in ((b"1", source), (b"2", target)) for part, name in zip(PARTS, context)
+        part + number: value
+        for number, context in ((b"1", source), (b"2", target)) for part, value in zip(PARTS + LEVELS, context)
     }
 
 
@@ -32,6 +35,8 @@ def holds(asked, values, sets):
     if asked.head == b"or":
         return any(holds(each, values, sets) for each in asked.parts)
     operator, first, second = asked.head
+    if first[:1] in LEVELS:
+        return COMPARED[operator](values[first], values[second])
     named = {values[second]} if second else {
         printed(path) for word in asked.parts for path in sets[first[:1]].stands_for(word)
     }

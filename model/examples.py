@@ -291,7 +291,8 @@ def sort_key(line):
 # The files of rows/ whose rows run over the model too.
 ROWS = [
     "arguments.session", "attributes.session", "audit.session", "booleans.session", "checks.session",
-    "constraints.session", "maps.session", "neverallow.session", "roles.session", "transitions.session",
+    "constraints.session", "levels.session", "maps.session", "neverallow.session", "roles.session",
+    "transitions.session",
 ]
 
 

@@ -15,8 +15,9 @@ Looked = collections.namedtuple("Looked", "sign node takes_list")
 Permission = collections.namedtuple("Permission", "node")
 
 # What is written with parts: a set, a condition or a constraint by its operator, `all`, `true`, `false` or `self`; a
-# comparison of a constraint by what it compares; else a list.
-Form = collections.namedtuple("Form", "head parts", defaults=((),))
+# comparison of a constraint by what it compares; else a list. Of lists, and of ranges of categories, it is known where
+# they open, and in an instance also in which module.
+Form = collections.namedtuple("Form", "head parts at module", defaults=((), None, None))
 
 # Of a constraint: `eq`, `neq` or one of levels, and two variables; or one, where it is compared with the words beside it.
 Comparison = collections.namedtuple("Comparison", "operator first second", defaults=(None,))
@@ -91,7 +92,7 @@ class Expressions:
     def read_list(self, items, node):
         if node.kind != "list":
             raise BadShape
-        return Form("list", tuple(self.read_items(items, node.value)))
+        return Form("list", tuple(self.read_items(items, node.value)), node.at)
 
     def meant(self, either, node):
         """Which of two items a node is: a list by that for lists, `true` and `false` by themselves."""
@@ -166,22 +167,22 @@ class Expressions:
     def expression(self, sign, node):
         """A set of what a sign stands for: a word, or what is made of sets."""
         if node.kind == "list":
-            return self.expression_list(sign, node.value)
+            return self.expression_list(sign, node.value, node.at)
         if node.kind == "word" and node.value == b"all":
             if not self.language.has_sets:
                 self.refuse(node)
             return Form(b"all")
         return self.read_p(node) if sign == "p" else self.look_up(sign, node, sign == "GS")
 
-    def expression_list(self, sign, nodes):
+    def expression_list(self, sign, nodes, at):
         head = head_of(nodes)
         if head in OPERANDS:
             if not self.language.has_sets:
                 self.refuse(nodes[0])
             return Form(head, tuple(self.expression(sign, each) for each in counted(nodes, OPERANDS[head])))
         if sign == "GS" and head == b"range":
-            return Form(head, tuple(self.look_up("G", each) for each in counted(nodes, 2)))
-        return Form("list", tuple(self.expression(sign, each) for each in nodes))
+            return Form(head, tuple(self.look_up("G", each) for each in counted(nodes, 2)), at)
+        return Form("list", tuple(self.expression(sign, each) for each in nodes), at)
 
     # ---- conditions and constraints
 
@@ -250,13 +251,17 @@ def only(nodes):
     return nodes
 
 
-def members(written, everything, of_item):
-    """What is in a set as it is written, where `all` is so much and an item has what is told of it."""
+def members(written, everything, of_item, between=None):
+    """What is in a set as it is written, where `all` is so much and an item has what is told of it; and so has what is
+    between two items, where there are ranges.
+    """
     if not isinstance(written, Form):
         return of_item(written)
     if written.head == b"all":
         return everything
-    inner = [members(each, everything, of_item) for each in written.parts]
+    if written.head == b"range":
+        return between(*written.parts)
+    inner = [members(each, everything, of_item, between) for each in written.parts]
     if written.head == b"not":
         return everything - inner[0]
     if written.head == b"and":

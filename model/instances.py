@@ -88,7 +88,7 @@ class Frame:
     def put_in(self, module, part):
         """A part of a statement with scopes, and with what the parameters stand for."""
         if isinstance(part, Form):
-            return Form(part.head, tuple(self.put_in(module, each) for each in part.parts))
+            return Form(part.head, tuple(self.put_in(module, each) for each in part.parts), part.at, module)
         if isinstance(part, Permission):
             return PermissionWord(module, part.node.at, part.node.value)
         given = self.arguments.get(part.node.value)

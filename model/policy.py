@@ -4,6 +4,7 @@ from classes import Permissions, faults_of_classes
 from contents import Contents
 from faults import fault, printed, stop_at
 from instances import Instances
+from levels import Levels
 from names import OBJECT_ROLE, Names, names_of_all
 from optionals import Optionals
 from rules import RULES, covers, is_active, neverallowed, rule_of
@@ -34,14 +35,16 @@ class Policy:
         stop_at([each for instance in instances.all if not instance.optionals for each in names.unresolved(instance)])
         self.enabled = [each for each in instances.all if self.optionals.enabled.issuperset(each.optionals)]
         types, roles, users = (Sets(space, names, self.enabled) for space in SPACES)
+        self.levels = Levels(names, self.enabled)
         stop_at([
-            *types.faults(), *roles.faults(), *users.faults(),
+            *types.faults(), *roles.faults(), *users.faults(), *self.levels.faults_of_sets(),
             *(each for instance in self.enabled for each in faults_of_classes(instance, names)),
             *too_many(names, b"class", MOST_CLASSES, b"classes"),
             *too_many(names, b"boolean", MOST_BOOLEANS, b"booleans"),
         ])
-        for each in (types, roles, users):
+        for each in (types, roles, users, self.levels):
             each.make()
+        stop_at(self.levels.faults())
         self.pairs = {
             b"roletype": self.linked(b"roletype", roles, types),
             b"userrole": self.linked(b"userrole", users, roles),
@@ -53,12 +56,16 @@ class Policy:
         self.sets = dict(zip(constraints.PARTS, (users, roles, types)))
         self.constraints = [
             constraints.constraint_of(each, permissions)
-            for each in self.enabled if each.statement.keyword == b"constrain"
+            for each in self.enabled if each.statement.keyword in self.constraining()
         ]
         stop_at(neverallowed(self.rules))
         self.defaults = {
             printed(path): ((b"true",),) == value for path, value in names.declared[b"boolean"].items()
         }
+
+    def constraining(self):
+        """The statements that are constraints."""
+        return (b"constrain", b"mlsconstrain") if self.levels.is_on else (b"constrain",)
 
     def linked(self, keyword, firsts, seconds):
         """The pairs that statements link: each of what the first word stands for with each of the second."""
@@ -76,16 +83,25 @@ class Policy:
         return parts and parts[2]
 
     def parts_of(self, context):
-        """The user, the role and the type of a valid context, else nothing. An alias is the type for which it stands."""
-        parts = context.split(b":")
-        if len(parts) != 3:
+        """The user, the role and the type of a valid context, with its low and its high level where it has levels; else
+        nothing. An alias is the type for which it stands.
+        """
+        parts = context.split(b":", 3)
+        if len(parts) != 3 + self.levels.is_on:
             return None
-        user, role, type_ = parts
+        user, role, type_ = parts[:3]
         type_ = self.aliases.get(type_, type_)
         if user not in self.names[b"user"] or role not in self.names[b"role"] or type_ not in self.names[b"type"]:
             return None
+        levels = ()
+        if self.levels.is_on:
+            levels = self.levels.read_range(parts[3])
+            if levels is None:
+                return None
         is_valid = (user, role) in self.pairs[b"userrole"] and (role, type_) in self.pairs[b"roletype"]
-        return (user, role, type_) if is_valid or role == printed(OBJECT_ROLE) else None
+        if self.levels.is_on:
+            is_valid = is_valid and self.levels.admits(user, levels)
+        return (user, role, type_, *levels) if is_valid or role == printed(OBJECT_ROLE) else None
 
     def refusal(self, source, target, class_name):
         """Why a query is not answered, or nothing."""

@@ -21,6 +21,8 @@ HERE = pathlib.Path(__file__).resolve().parent
 sys.path.insert(0, str(HERE.parent / "scripts"))
 
 import model
+from faults import printed
+from names import Entry
 from sessions import files, rows_of
 
 LIBRARY = "/usr/lib/x86_64-linux-gnu/libsepol.a"
@@ -35,31 +37,54 @@ def built(folder):
 
 def besides(policy):
     """What secilc wants of a policy besides what it says."""
-    users = sorted(policy.names[b"user"]) + [b"sepol_u"]
+    levels = policy.levels
     lines = [
-        b"(handleunknown allow)(mls false)(sensitivity sepol_s)(sensitivityorder (sepol_s))(category sepol_c)",
-        b"(categoryorder (sepol_c))(sensitivitycategory sepol_s (sepol_c))(user sepol_u)(role sepol_r)(type sepol_t)",
+        b"(handleunknown allow)(user sepol_u)(role sepol_r)(type sepol_t)(role object_r)",
         b"(userrole sepol_u sepol_r)(roletype sepol_r sepol_t)(sid sepol)(sidorder (sepol))",
-        b"(sidcontext sepol (sepol_u sepol_r sepol_t ((sepol_s)(sepol_s))))",
         b"(classorder (unordered %s))" % b" ".join(b"." + name for name in sorted(policy.names[b"class"])),
-        b"(role object_r)",
     ]
-    for user in users:
-        lines.append(b"(userlevel .%s (sepol_s))(userrange .%s ((sepol_s)(sepol_s)))" % (user, user))
+    if not levels.switches:
+        lines.append(b"(mls false)")
+    if not levels.categories.places:
+        lines.append(b"(category sepol_c)(categoryorder (sepol_c))")
+    lowest = b"sepol_s"
+    if levels.sensitivities.places:
+        lowest = b"." + printed(levels.sensitivities.order()[0])
+    else:
+        lines.append(b"(sensitivity sepol_s)(sensitivityorder (sepol_s))(sensitivitycategory sepol_s (sepol_c))")
+    lines.append(b"(sidcontext sepol (sepol_u sepol_r sepol_t ((%s)(%s))))" % (lowest, lowest))
+    have_level = {levels.names.named(each.words[0]).path for each in levels.of(b"userlevel")}
+    for path in [*levels.names.declared[b"user"], (b"sepol_u",)]:
+        ranges = levels.user_ranges.get(Entry(b"user", path))
+        user, level = printed(path), b"(%s)" % lowest
+        if ranges:
+            level = written(levels, min(ranges).low)
+        else:
+            lines.append(b"(userrange .%s ((%s)(%s)))" % (user, lowest, lowest))
+        if path not in have_level:
+            lines.append(b"(userlevel .%s %s)" % (user, level))
     return b"\n".join(lines)
 
 
+def written(levels, level):
+    """A level as CIL has it."""
+    categories = [b"." + printed(path) for path in sorted(level.categories)]
+    sensitivity = printed(levels.sensitivities.order()[level.sensitivity])
+    return b"(.%s (%s))" % (sensitivity, b" ".join(categories)) if categories else b"(.%s)" % sensitivity
+
+
 def compiled(folder, texts, policy):
-    """The binary policy that secilc makes, or nothing where it refuses."""
+    """The binary policy that secilc makes, or nothing where it refuses; and what it says."""
     names = []
     for number, text in enumerate([*texts, besides(policy)]):
         names.append(folder / f"{number}.cil")
         names[-1].write_bytes(text + b"\n")
     made = folder / "policy"
+    is_on = "true" if policy.levels.is_on else "false"
     done = subprocess.run(
-        ["secilc", "-M", "false", "-o", made, "-f", folder / "contexts", *names], capture_output=True, check=False,
+        ["secilc", "-M", is_on, "-o", made, "-f", folder / "contexts", *names], capture_output=True, check=False,
     )
-    return made if done.returncode == 0 else None
+    return made if done.returncode == 0 else None, done.stderr.decode(errors="replace")
 
 
 def queries_of(session):
@@ -76,7 +101,7 @@ def queries_of(session):
                 loads.append(([*texts], []))
         elif word == "SET":
             is_open = False
-        elif word in ("AV", "CHECK") and is_open and step.reply.startswith(b"OK "):
+        elif word in ("AV", "CHECK") and is_open and step.reply.startswith((b"OK ", b"ERR 72")):
             loads[-1][1].append((step.given.split(), step.reply.strip()))
     return [load for load in loads if load[1]]
 
@@ -99,15 +124,18 @@ def replies(program, policy, queries):
     lines = done.stdout.split(b"\n")
     made = []
     for (words, _), line in zip(queries, lines):
-        if words[0] == b"AV" or line == b"none":
-            made.append(b"OK " + line if line != b"none" else line)
+        if line == b"none":
+            made.append(line)
+        elif words[0] == b"AV":
+            made.append(b"OK " + line)
         else:
             made.append(b"OK yes" if words[4] in line.split()[0].split(b",") else b"OK no")
     return made
 
 
 def main():
-    chosen = [pathlib.Path(name) for name in sys.argv[1:]] or files()
+    is_told = sys.argv[1:2] == ["--why"]
+    chosen = [pathlib.Path(name) for name in sys.argv[1 + is_told:]] or files()
     compared = wrong = refused = 0
     with tempfile.TemporaryDirectory() as name:
         folder = pathlib.Path(name)
@@ -117,14 +145,16 @@ def main():
                 for session in row.sessions:
                     for texts, queries in queries_of(session):
                         policy = policy_of(texts)
-                        made = policy and compiled(folder, texts, policy)
+                        made, said = compiled(folder, texts, policy) if policy else (None, "")
                         answered = made and replies(program, made, queries)
                         if not answered:
                             refused += 1
+                            if is_told:
+                                print(f"{path.name}: {row.name}: refused: {said or 'by libsepol'}")
                             continue
                         for (words, want), got in zip(queries, answered):
                             compared += 1
-                            if got != want:
+                            if got != (b"none" if want.startswith(b"ERR") else want):
                                 wrong += 1
                                 asked = b" ".join(words).decode()
                                 print(f"{path.name}: {row.name}: {asked}: the row has {want.decode()}, libsepol {got.decode()}")

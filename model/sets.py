@@ -1,9 +1,10 @@
-"""What aliases and attributes of types, roles and users stand for, as sets of full names; or what is wrong with them."""
+"""What aliases and attributes of a name space stand for, as sets of full names; or what is wrong with them."""
 import collections
 
 from contents import reached
 from expressions import members
 from faults import fault, printed
+from instances import words_in
 from names import Entry, declared_fault, full_name
 
 # Of a name space: its items, its aliases, its attributes, the statements that give these their targets and members, and
@@ -28,11 +29,16 @@ class Sets:
             self.targets[alias].add(target)
         self.needed = collections.defaultdict(set)
         for each in self.of(space.setting):
-            attribute, *items = map(names.named, each.words)
-            self.needed[attribute].update(items)
+            attribute, expression = self.given(each)
+            self.needed[attribute].update(map(names.named, words_in(expression)))
 
     def of(self, keyword):
         return [each for each in self.enabled if keyword and each.statement.keyword == keyword]
+
+    def given(self, setting):
+        """The attribute to which a statement gives members, and what it gives."""
+        word, expression = setting.parts
+        return self.names.named(word), expression
 
     def faults(self):
         found = []
@@ -61,16 +67,20 @@ class Sets:
     def make(self):
         """Makes the sets in rounds, each attribute from those of the round before, until a round changes none."""
         self.items = frozenset(self.names.declared[self.space.item])
-        self.members = {path: frozenset() for path in self.names.declared[self.space.attribute]}
+        self.members = {path: frozenset() for path in self.names.declared.get(self.space.attribute, ())}
         while True:
             made = {path: set() for path in self.members}
             for each in self.of(self.space.setting):
-                attribute, expression = each.parts
-                made[self.names.named(attribute).path] |= members(expression, self.items, self.stands_for)
+                attribute, expression = self.given(each)
+                made[attribute.path] |= self.value(expression)
             made = {path: frozenset(held) for path, held in made.items()}
             if made == self.members:
                 return
             self.members = made
+
+    def value(self, expression):
+        """What is in a set as it is written."""
+        return members(expression, self.items, self.stands_for)
 
     def item_of(self, entry):
         """The item that an alias stands for in the end, or an item itself."""

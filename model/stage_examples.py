@@ -879,8 +879,7 @@ CONSTRAINTS = [
     ], refused(Fault(37, b"m", b"m)))"))),
 ]
 
-# The faults of names, shapes and arguments of statements that have no meaning here yet.
-LATER = [
+LEVELS = [
     ("a list and none", [b"(sensitivity s)(level l (s))(level l (s ()))"], refused(
         Fault(36, b"l", b"l (s)"), Fault(36, b"l", b"l (s ("),
     )),
@@ -906,7 +905,7 @@ STAGES = [
     (["sets"], SETS), (["maps"], MAPS), (["maps"], ARGUMENTS), (["maps", "audit"], AUDIT),
     (["sets", "maps", "booleans"], BOOLEANS), (["sets", "maps", "transitions"], TRANSITIONS),
     (["sets", "maps", "audit", "booleans", "roles"], ROLES),
-    (["sets", "maps", "audit", "booleans", "roles", "constraints"], CONSTRAINTS), (None, LATER),
+    (["sets", "maps", "audit", "booleans", "roles", "constraints"], CONSTRAINTS), (["levels"], LEVELS),
 ]
 LONG = [
     (["sets"], [

@@ -4,6 +4,7 @@ from block_sessions import any_context, changes, is_process, of_constraints, val
 from faults import printed
 from instances import words_in
 from level_policies import LevelDraft
+from level_texts import with_levels
 from optional_sessions import LINES, left_out, names_out, pairs_in, pairs_out, rules_out, some
 from pieces import install, often
 from policy import CHANGES
@@ -33,8 +34,47 @@ def stages(rng, language):
 
 
 def levels(rng, language):
-    """The same with levels and mlsconstrain, whose meaning is still to come: refused."""
-    return block_sessions.loads(rng, LevelDraft(rng, language), asked, 0.35)
+    """The same with levels: orders, ranges of users, contexts with levels, constraints that compare them."""
+    if often(rng, 0.02):
+        return many_levels(rng)
+    return block_sessions.loads(rng, LevelDraft(rng, language), asked_with_levels, 0.4)
+
+
+def many_levels(rng):
+    """As many sensitivities or categories as may be, or one more, and queries of sets of many categories."""
+    counts = rng.choice([256, 257, 3]), rng.choice([1024, 1025, 1023, 700])
+    parts = []
+    for kind, count in zip((b"sensitivity", b"category"), counts):
+        names = [b"%c%d" % (kind[0], i) for i in range(count)]
+        rng.shuffle(names)
+        cut = rng.randrange(count)
+        rows = [names[:cut + 1], names[cut:]] if often(rng, 0.9) else [names[:cut], names[cut:]]
+        parts.append(b"".join(b"(%s %s)" % (kind, name) for name in sorted(names)))
+        parts.append(b"".join(b"(%sorder (%s))" % (kind, b" ".join(row)) for row in rows if row))
+        highest, lowest = names[-1], names[0]
+        parts.append(b"(%salias %ch)(%saliasactual %ch %s)(%salias %cl)(%saliasactual %cl %s)" % (
+            kind, kind[0], kind, kind[0], highest, kind, kind[0], kind, kind[0], lowest,
+        ))
+    users = b"(class file (read))(user u)(role r)(type a)(userrole u r)(roletype r a)(allow a a (file (all)))"
+    permitted = b"(sensitivitycategory sl (all))(sensitivitycategory sh (range cl ch))(userrange u ((sl) (sh all)))"
+    asked_of_levels = b"(mls true)(mlsconstrain (file (read)) (%s %s))" % (
+        rng.choice([b"dom", b"domby", b"eq", b"incomp"]), rng.choice([b"l1 l2", b"h1 h2", b"l1 h2"]),
+    )
+    texts = [b"sl", b"sh", b"sl-sh:cl.ch", b"sh:cl.ch", b"sl-sh:ch", b"sl:cl,ch", b"sh:ch.cl", b"sl-sh:c1.ch", b"sl:c0,c63,c64,c65", b"sl:cl.c9"]
+    queries = [b"AV u:r:a:%s u:r:a:%s file\n" % tuple(rng.choices(texts, k=2)) for _ in range(12)]
+    some = [b"c%d" % i for i in rng.sample(range(counts[1]), 300)]
+    queries.append(b"AV u:r:a:sl:%s u:r:a:sl:%s file\n" % (b",".join(some), b",".join(sorted(some))))
+    return [*map(install, [*parts, users + permitted + asked_of_levels]), b"LOAD\n", *queries]
+
+
+def asked_with_levels(rng, policy):
+    """The same with levels in the contexts."""
+    queries = asked(rng, policy)
+    if policy:
+        queries = [with_levels(rng, policy, each) for each in queries]
+        found = [each for each in queries if each.startswith(b"AV ")]
+        queries += [check_of(rng, policy, each) for each in rng.sample(found, min(len(found), 4))]
+    return queries
 
 
 def asked(rng, policy):

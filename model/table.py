@@ -164,10 +164,15 @@ STAGES = {
     "transitions": b"roletransition typetransition typechange typemember".split(),
     "roles": b"roleallow".split(),
     "constraints": b"constrain".split(),
+    "levels": b"""
+        sensitivity sensitivityalias sensitivityaliasactual sensitivityorder sensitivitycategory
+        category categoryalias categoryaliasactual categoryorder categoryset
+        mls level levelrange userlevel userrange rangetransition mlsconstrain
+        """.split(),
 }
 
 # The stages that the program accepts today. Whoever brings one there enters it here.
-TODAY = "sets", "transitions", "maps", "audit", "booleans", "roles", "constraints"
+TODAY = "sets", "transitions", "maps", "audit", "booleans", "roles", "constraints", "levels"
 
 
 def accepting(stages):

@@ -3,7 +3,7 @@ import re
 
 from sessions import ROOT
 
-OF_THE_POLICY = {38, 60}
+OF_THE_POLICY = {38, 57, 58, 59, 60}
 
 
 def sentences():
