@@ -1,0 +1,6 @@
+pub mod Bytes
+pub mod FieldLaws
+pub mod FormatLaws
+pub mod Loops
+pub mod Orders
+pub mod Rises

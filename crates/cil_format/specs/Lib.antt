@@ -1,0 +1,5 @@
+pub mod Codes
+pub mod Ends
+pub mod Fields
+pub mod Format
+pub mod Takes
