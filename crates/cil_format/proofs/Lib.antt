@@ -1,6 +1,7 @@
 pub mod Bytes
 pub mod FieldLaws
 pub mod FormatLaws
+pub mod Growing
 pub mod Loops
 pub mod Orders
 pub mod Rises

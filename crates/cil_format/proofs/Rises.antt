@@ -1,7 +1,10 @@
 -- Lists of numbers that rise.
-use Rattle.std.proofs.Common.{◌≡◌, ℕ, zero, suc, ◌-◌, ◌+◌, ◌≤◌, ◌<◌, Bool, true, List, [], ◌∷◌, length, drop, refl, sym, ap, ◌∙◌, arith}
-use Rattle.std.proofs.Common.{ltb}
+use Rattle.std.proofs.Common.{◌≡◌, ℕ, ◌-◌, ◌+◌, ◌≤◌, ◌<◌, Bool, true, ltb, List, [], ◌∷◌, length, drop, refl, sym, ◌∙◌, arith}
 use Rattle.std.specs.List.{AllByRecursion}
+use Rattle.std.specs.List.Sorted.{IsStrictlySortedBy}
+use Rattle.std.specs.Ordering.{nat_cmp}
+use Rattle.std.specs.declared.cmp.Ordering.TheVariants.{Less}
+use Rattle.std.proofs.lemmas.Cmp.{nat_cmp_total}
 use Rattle.std.proofs.lemmas.Bool.{and_parts, ltb-true}
 use Rattle.std.proofs.lemmas.List.{length-drop}
 use Rattle.cil_format.specs.Fields.{rises, texts_rise}
@@ -33,3 +36,20 @@ below_from a (b ∷ more) n up all =
 pub at_most : (xs : List ℕ) (n : ℕ) → rises xs ≡ true → AllByRecursion (λ k. k < n) xs → length xs ≤ n
 at_most [] n up all = omega arith
 at_most (a ∷ more) n up all = omega (arith, below_from a more n up all)
+
+-- ---- rising lists as sets
+
+above_all : (a b : ℕ) (more : List ℕ) → a < b → AllByRecursion (λ y. nat_cmp b y ≡ Less) more → AllByRecursion (λ y. nat_cmp a y ≡ Less) more
+above_all a b [] lt all = tt
+above_all a b (c ∷ more) lt all = (nat_cmp_total.trans a b c (grind (arith, lt)) all.0, above_all a b more lt all.1)
+
+-- numbers of which each is above the one before it are the list of a set
+pub sorted : (xs : List ℕ) → rises xs ≡ true → IsStrictlySortedBy nat_cmp xs
+unfolding IsStrictlySortedBy
+sorted [] up = tt
+sorted (a ∷ []) up = (tt, tt)
+sorted (a ∷ b ∷ more) up =
+    let parts = and_parts (ltb a b) (rises (b ∷ more)) up in
+    let lt = ltb-true a b parts.0 in
+    let on = sorted (b ∷ more) parts.1 in
+    ((grind (arith, lt), above_all a b more lt on.0), on)

@@ -10,11 +10,13 @@
 mod fault;
 mod fields;
 mod numbers;
+mod put;
 mod section;
 mod sets;
 
 pub use fault::{TableError, TableFault};
 pub use fields::{byte_below, run_at, small_at, text_at, this_byte, u8_at, u16_at, u32_at};
 pub use numbers::set_at;
+pub use put::{put_set, put_text};
 pub use section::{Section, is_below, section_at, text_in};
 pub use sets::rising_at;

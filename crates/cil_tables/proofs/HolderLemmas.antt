@@ -16,7 +16,7 @@ use Rattle.cil_base.specs.Lists.{Lists, all_at, contains_cases, contains_here, c
 use Rattle.cil_base.specs.MadeLists.{contains_map, from_map}
 use Rattle.cil_tables.specs.declared.tables.Link.{Link}
 use Rattle.cil_tables.specs.Holders.{AreRising, link_to, links_from}
-use Rattle.cil_tables.specs.Table.{link_cmp}
+use Rattle.cil_tables.specs.Table.{link_cmp, same_ends}
 
 -- ---- one pair
 
@@ -164,6 +164,35 @@ module _ (rows : List (List ℕ)) (holder : ℕ) (helds row : List ℕ) (within 
         | inl e ↦ subst (λ k. Contains (get_or (set rows holder row) k []) t ↔ IsMore (link_to k t)) (sym e) (at_holder t)
         | inr other ↦ elsewhere h t other
       ])
+
+-- a set with one member more in the place of one: one link more
+module _ (rows : List (List ℕ)) (one : Link) (row : List ℕ) (within : one.holder < length rows)
+    (is : Lists nat_cmp (λ v. Contains (get_or rows one.holder []) v ⊎ (v ≡ one.held)) row) where
+  alone : (t : ℕ) → Contains (one.held ∷ []) t → t ≡ one.held
+  alone t c = elim (contains_cases t one.held [] c) [ inl e ↦ sym e | inr none ↦ absurd (contains_none t none) ]
+
+  its_row : Lists nat_cmp (λ v. Contains (get_or rows one.holder []) v ⊎ Contains (one.held ∷ []) v) row
+  its_row = record {
+    rising = is.rising;
+    members = λ t. (
+      λ c. elim ((is.members t).0 c) [ inl d ↦ inl d | inr e ↦ inr (subst (Contains (one.held ∷ [])) (sym e) (contains_here one.held [])) ],
+      λ o. (is.members t).1 (elim o [ inl d ↦ inl d | inr e ↦ inr (alone t e) ]),
+    );
+  }
+
+  pub link_added : AreRising rows → Lists link_cmp (λ l. Contains (links_from 0 rows) l ⊎ (l ≡ one)) (links_from 0 (set rows one.holder row))
+  link_added up =
+      let more = links_united rows one.holder (one.held ∷ []) row within its_row up in
+      record {
+        rising = more.rising;
+        members = λ l. (
+          λ c. elim ((more.members l).0 c) [ inl d ↦ inl d | inr e ↦ inr (same_ends l one e.0 (alone l.held e.1)) ],
+          λ o. (more.members l).1 (elim o [
+            | inl d ↦ inl d
+            | inr e ↦ inr (ap (λ (k : Link). k.holder) e, subst (λ (k : Link). Contains (one.held ∷ []) k.held) (sym e) (contains_here one.held []))
+          ]),
+        );
+      }
 
 pub no_links : IsStrictlySortedBy link_cmp []
 unfolding IsStrictlySortedBy

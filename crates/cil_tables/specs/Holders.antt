@@ -1,4 +1,4 @@
--- Links by their holders: which links some sets are, one for each holder. No other crate needs these words.
+-- Links by their holders: which links some sets are, one for each holder.
 use Rattle.std.specs.Prelude.{ℕ, suc, List, [], ◌∷◌, ◌++◌, map, Contains}
 use Rattle.std.specs.Ordering.{nat_cmp}
 use Rattle.std.specs.List.Sorted.{IsStrictlySortedBy}

@@ -15,6 +15,7 @@ pub mod Links
 pub mod Meaning
 pub mod Named
 pub mod RoleChanges
+pub mod Parts
 pub mod Sections
 pub mod SetsStep
 pub mod Standings

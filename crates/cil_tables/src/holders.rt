@@ -33,12 +33,28 @@ impl Model for Links {
 
 impl Links {
     /// No links.
-    pub(crate) fn new(alloc: Global) -> Links
+    pub fn new(alloc: Global) -> Links
         ensures { result ≡ [] }
     {
         Links {
             rows: Vec::new(alloc),
         }
+    }
+
+    /// The set of each holder, by its number, up to the last that has something.
+    pub fn rows(&self) -> &[Numbers]
+        ensures links { links_from 0 result.now ≡ self.now }
+    {
+        self.rows.as_slice()
+    }
+
+    /// Adds a link. It costs a step for each holder before its own that has nothing yet, and a search by halving. Errors: out of memory.
+    pub fn add(&mut self, alloc: Global, link: Link) -> Result<(), NoMemory>
+        ensures { OnOk result (Lists link_cmp (λ l. Contains self.old l ⊎ (l ≡ link)) self.new) }
+    {
+        reach(alloc, &mut self.rows, link.holder)?;
+        self.rows[link.holder].add(link.held)?;
+        Ok(())
     }
 
     /// Joins each of some holders with each of these. It costs a step for each holder, and for each of them a search by halving, or

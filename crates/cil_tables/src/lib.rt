@@ -23,4 +23,4 @@ pub mod tables;
 pub use cil_constraints::Context;
 pub use compiler::{Compiled, compile};
 pub use holders::Links;
-pub use tables::{Alias, Link, Tables};
+pub use tables::{Alias, Boolean, Link, TableParts, Tables};

@@ -125,6 +125,35 @@ pub struct Boolean {
     pub default: bool,
 }
 
+/// What tables are put together from. Each list is in the order in which tables have it.
+#[derive(Drop)]
+pub struct TableParts {
+    /// Sensitivities, categories and the ranges of users.
+    pub levels: Labels,
+    /// The names of the users, in byte order.
+    pub users: Names,
+    /// The names of the roles, in byte order.
+    pub roles: Names,
+    /// The names of the types, in byte order.
+    pub types: Names,
+    /// The aliases of the types, in byte order of their names.
+    pub type_aliases: Vec<Alias>,
+    /// The rows of the classes, in byte order of their names.
+    pub classes: Vec<Class>,
+    /// The booleans, in byte order of their names.
+    pub booleans: Vec<Boolean>,
+    /// The users with their roles.
+    pub user_roles: Links,
+    /// The roles with their types.
+    pub role_types: Links,
+    /// The roles with those to which they may change.
+    pub role_allows: Links,
+    /// The rules, each section with its index.
+    pub rules: Sections,
+    /// The constraints, in their order.
+    pub constraints: Vec<Constraint>,
+}
+
 /// The tables of a policy.
 #[derive(Debug, Drop)]
 pub struct Tables {
@@ -180,7 +209,43 @@ impl Model for Tables {
 
 impl Tables {
     ghost use Rattle.std.specs.Prelude.{◌≡◌};
+    ghost use Rattle.cil_tables.specs.Parts.{table_of};
     ghost use Rattle.cil_tables.specs.Table.{IsOrderly};
+
+    /// The tables of these parts, without a copy.
+    pub fn of(parts: TableParts) -> Tables
+        requires { IsOrderly (table_of parts) }
+        ensures { result ≡ table_of parts }
+    {
+        let TableParts {
+            levels,
+            users,
+            roles,
+            types,
+            type_aliases,
+            classes,
+            booleans,
+            user_roles,
+            role_types,
+            role_allows,
+            rules,
+            constraints,
+        } = parts;
+        Tables {
+            levels,
+            users,
+            roles,
+            types,
+            type_aliases,
+            classes,
+            booleans,
+            user_roles,
+            role_types,
+            role_allows,
+            rules,
+            constraints,
+        }
+    }
 
     /// Sensitivities, categories and the ranges of users.
     pub fn levels(&self) -> &Labels
