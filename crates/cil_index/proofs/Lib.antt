@@ -4,6 +4,7 @@ mod MembershipLemmas
 mod IndexLemmas
 mod KeyLemmas
 mod LayoutLemmas
+mod ListedLemmas
 mod NumberLemmas
 mod OrderLemmas
 mod RisingLemmas

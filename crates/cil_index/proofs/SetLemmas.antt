@@ -63,10 +63,10 @@ pub none_in : (t : ℕ) (set : List ℕ) → set ≡ [] → IsTrue false ↔ Con
 none_in t set e = rw e (λ h. let f : false ≡ true = h in absurd cc, λ c. absurd (contains_none t c))
 
 module _ (ones : ℕ) (more sets : List (List ℕ)) (view : all_sets ones more ≡ sets) where
-  empty_is : (n : ℕ) → n ≡ 0 → set_of sets n ≡ []
+  pub empty_is : (n : ℕ) → n ≡ 0 → set_of sets n ≡ []
   empty_is n e = ap (set_of sets) e ∙ ap (λ s. set_of s 0) (sym view) ∙ empty_there ones more
 
-  one_is : (n : ℕ) → (n ≡ 0 → ⊥) → n ≤ ones → set_of sets n ≡ (n - 1) ∷ []
+  pub one_is : (n : ℕ) → (n ≡ 0 → ⊥) → n ≤ ones → set_of sets n ≡ (n - 1) ∷ []
   one_is n some within =
       let before : n - 1 < ones = omega (arith, some, within) in
       let at : n ≡ suc (n - 1) = omega (arith, some) in
@@ -74,6 +74,13 @@ module _ (ones : ℕ) (more sets : List (List ℕ)) (view : all_sets ones more �
 
   other_is : (n : ℕ) → ones < n → set_of sets n ≡ get_or more (n - ones - 1) []
   other_is n over = ap (λ s. set_of s n) (sym view) ∙ several_there ones n more over
+
+  -- one of several types stands behind those of one
+  pub several_is : (n : ℕ) (set : List ℕ) → ones < n → n - ones - 1 < length more → set ≡ get_or more (n - ones - 1) set → set ≡ set_of sets n
+  several_is n set over within is = is ∙ get_or_default more (n - ones - 1) set [] within ∙ sym (other_is n over)
+
+  pub past_is : (n : ℕ) → ones < n → length more ≤ n - ones - 1 → [] ≡ set_of sets n
+  past_is n over past = sym (other_is n over ∙ get_or-eq_default more [] past)
 
   -- the empty set has nothing
   pub empty_has : (n t : ℕ) → n ≡ 0 → IsTrue false ↔ Contains (set_of sets n) t

@@ -3,6 +3,7 @@ pub mod Found
 pub mod Memberships
 pub mod Kept
 pub mod Layout
+pub mod Listed
 pub mod Order
 pub mod Rising
 pub mod Search

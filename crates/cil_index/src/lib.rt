@@ -6,7 +6,7 @@
 //! which rule a record keeps, `specs/Order.antt` that records have the order of their rules, and `specs/Entries.antt` by what a rule is
 //! found: by its heading, which is the one type that it reaches, or else the set of its sources; by its class; and by its other side, a type or the number
 //! of a set. Records are kept in the order of the index, with a list beside them that has the order of the table (`indexed.rt`, `specs/Layout.antt`).
-//! `memberships.rt` tells which sets have a type.
+//! `memberships.rt` tells which sets have a type. `listed.rt` hands the rules of a kind up one by one, without a copy (`specs/Listed.antt`).
 #![tactic(auto)]
 
 mod asked;
@@ -14,6 +14,7 @@ mod cover;
 mod index;
 mod indexed;
 mod key;
+mod listed;
 mod matches;
 mod memberships;
 mod record;
@@ -23,4 +24,5 @@ mod section;
 mod sets;
 
 pub use asked::Asked;
+pub use listed::{ListedRule, ListedRules, ListedTarget, TypeSet};
 pub use section::{NamedRules, Sections};

@@ -15,6 +15,7 @@ ghost use Rattle.cil_index.specs.Sections.{IsIndexed, rules_of};
 use crate::asked::{Asked, Searched};
 use crate::cover::covered;
 use crate::indexed::{Indexed, index_rules};
+use crate::listed::ListedRules;
 use crate::matches::mask_at;
 use crate::memberships::Memberships;
 use crate::sets::{Sets, numbers_of};
@@ -156,6 +157,27 @@ impl Sections {
         ensures { result ≡ length self.now.allow }
     {
         self.allow.order.len()
+    }
+
+    /// The rules that allow, to be gone through in the order of the table. It takes no memory.
+    pub fn allow(&self) -> ListedRules<'_>
+        ensures { result ≡ self.now.allow }
+    {
+        ListedRules::of(&self.branches, &self.sets, &self.allow)
+    }
+
+    /// Those by which the use of a permission is recorded, in the same way.
+    pub fn auditallow(&self) -> ListedRules<'_>
+        ensures { result ≡ self.now.auditallow }
+    {
+        ListedRules::of(&self.branches, &self.sets, &self.auditallow)
+    }
+
+    /// Those by which the denial of a permission is not recorded, in the same way.
+    pub fn dontaudit(&self) -> ListedRules<'_>
+        ensures { result ≡ self.now.dontaudit }
+    {
+        ListedRules::of(&self.branches, &self.sets, &self.dontaudit)
     }
 }
 

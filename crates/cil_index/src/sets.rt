@@ -4,9 +4,11 @@ ghost use Rattle.std.specs.Prelude.{◌≡◌, ◌+◌, ◌↔◌, ◌<◌, ℕ,
 ghost use Rattle.std.specs.List.Sorted.{IsStrictlySortedBy};
 ghost use Rattle.cil_sets.specs.Answers.{set_cmp};
 ghost use Rattle.cil_index.specs.Entries.{key_of_set};
+ghost use Rattle.cil_index.specs.Listed.{members_of};
 ghost use Rattle.cil_index.specs.Sets.{AreNumbered, IsSmallNumber, all_sets, set_of};
 
 use crate::key::type_key;
+use crate::listed::TypeSet;
 use cil_base::NoMemory;
 use cil_sets::Numbers;
 use std::alloc::Global;
@@ -125,6 +127,23 @@ impl Sets {
         match self.several.get((set - ones - 1) as usize) {
             Some(set) => set.contains(number),
             None => false,
+        }
+    }
+
+    /// The set of this number; the empty one where there is none. It takes no memory.
+    pub fn set(&self, number: u32) -> TypeSet<'_>
+        ensures { members_of result ≡ set_of self.now number }
+    {
+        let ones = self.ones;
+        if number == 0 {
+            return TypeSet::Empty;
+        }
+        if number <= ones {
+            return TypeSet::One(number - 1);
+        }
+        match self.several.get((number - ones - 1) as usize) {
+            Some(set) => TypeSet::Several(set),
+            None => TypeSet::Empty,
         }
     }
 
