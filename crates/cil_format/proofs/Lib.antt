@@ -5,3 +5,4 @@ pub mod Growing
 pub mod Loops
 pub mod Orders
 pub mod Rises
+pub mod SortedRecords
