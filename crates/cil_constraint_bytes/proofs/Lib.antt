@@ -1,0 +1,11 @@
+pub mod Exact
+mod FieldBack
+pub mod FitLemmas
+mod Lists
+mod Masks
+pub mod OrderLemmas
+mod RecordLemmas
+mod Rows
+pub mod SpelledLemmas
+mod StepLemmas
+pub mod WithinLemmas

@@ -1,0 +1,5 @@
+pub mod Bounds
+pub mod Layout
+pub mod Pushes
+pub mod Spelled
+pub mod Within
