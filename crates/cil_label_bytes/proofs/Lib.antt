@@ -1,0 +1,14 @@
+pub mod ApartLemmas
+pub mod EachLoops
+pub mod Exact
+pub mod Insertion
+pub mod LaidLemmas
+pub mod MemberLemmas
+pub mod NameLemmas
+pub mod NameRows
+pub mod PairLemmas
+pub mod PutLemmas
+pub mod RangeLemmas
+pub mod ReadLemmas
+pub mod Rows
+pub mod SetLemmas

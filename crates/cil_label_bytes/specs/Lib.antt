@@ -1,0 +1,4 @@
+pub mod Keys
+pub mod Layout
+pub mod Names
+pub mod Sets
