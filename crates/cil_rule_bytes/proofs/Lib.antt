@@ -1,0 +1,11 @@
+pub mod Exact
+pub mod Masks
+pub mod NamedLemmas
+pub mod PushLemmas
+pub mod Rows
+pub mod RuleOrder
+pub mod SectionLemmas
+pub mod SpellLemmas
+pub mod TokenOrder
+pub mod Trees
+pub mod WriteLemmas

@@ -1,0 +1,8 @@
+pub mod Bounds
+pub mod Conditions
+pub mod Handed
+pub mod Layout
+pub mod Pushed
+pub mod Records
+pub mod Sections
+pub mod Spelled
