@@ -8,5 +8,5 @@ pub struct Bounds<'b> {
     /// How many booleans there are.
     pub booleans: usize,
     /// For each class how many permissions it has.
-    pub widths: &'b [u8],
+    pub widths: &'b [usize],
 }

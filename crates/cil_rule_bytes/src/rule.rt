@@ -58,7 +58,7 @@ fn target_at(alloc: Global, bytes: &[u8], types: usize) -> Result<(ReadTarget, &
 }
 
 /// Whether a mask has no bit past so many permissions.
-fn is_within(mask: u32, width: u8) -> bool
+fn is_within(mask: u32, width: usize) -> bool
     ensures { result ≡ nat_lt mask (2 ^ width) }
 {
     if width < 32 {
@@ -68,7 +68,7 @@ fn is_within(mask: u32, width: u8) -> bool
 }
 
 /// Permissions of a class that has so many.
-fn mask_at(bytes: &[u8], width: u8) -> Result<(u32, &[u8]), TableError>
+fn mask_at(bytes: &[u8], width: usize) -> Result<(u32, &[u8]), TableError>
     ensures { Takes (λ x. (x.0, x.1.now)) result ((mask width).read bytes.now) }
 {
     let (mask, rest) = u32_at(bytes)?;
@@ -79,7 +79,7 @@ fn mask_at(bytes: &[u8], width: u8) -> Result<(u32, &[u8]), TableError>
 }
 
 /// How many permissions a class has.
-fn width_of(widths: &[u8], class: usize) -> u8
+fn width_of(widths: &[usize], class: usize) -> usize
     ensures { result ≡ get_or widths.now class 0 }
 {
     match widths.get(class) {
@@ -89,7 +89,7 @@ fn width_of(widths: &[u8], class: usize) -> u8
 }
 
 /// A class, and permissions of it.
-fn on_class_at<'a>(bytes: &'a [u8], widths: &[u8]) -> Result<((u16, u32), &'a [u8]), TableError>
+fn on_class_at<'a>(bytes: &'a [u8], widths: &[usize]) -> Result<((u16, u32), &'a [u8]), TableError>
     ensures { Takes (λ x. ((x.0.0, x.0.1), x.1.now)) result ((on_class widths.now).read bytes.now) }
 {
     let (class, rest) = small_at(bytes, widths.len())?;
