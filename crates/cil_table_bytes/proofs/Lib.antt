@@ -1,3 +1,4 @@
+mod Failures
 mod NameExact
 mod NewNames
 mod Orderly

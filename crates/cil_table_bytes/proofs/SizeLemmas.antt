@@ -1,5 +1,6 @@
 -- What has a layout is not larger than its bytes can say.
-use Rattle.std.proofs.Common.{ℕ, ◌<◌, ◌^◌, Bool, List, length, arith}
+use Rattle.std.proofs.Common.{ℕ, zero, suc, ◌<◌, ◌^◌, Bool, List, [], ◌∷◌, length, arith}
+use Rattle.std.specs.List.{AllByRecursion}
 use Rattle.std.specs.Prelude.{All, nat_le}
 use Rattle.std.proofs.lemmas.Bool.{leb-true}
 use Rattle.cil_classes.specs.declared.row.Class.{Class}
@@ -13,15 +14,20 @@ use Rattle.cil_label_bytes.specs.Layout.{any_count}
 use Rattle.cil_label_bytes.specs.Names.{name, permission}
 use Rattle.cil_constraint_bytes.specs.Spelled as constrained
 use Rattle.cil_constraint_bytes.proofs.FitLemmas as fits_small
-use Rattle.cil_constraint_bytes.proofs.Lists.{by_place, weaker}
 use Rattle.cil_table_bytes.specs.Names.{alias, class_row, boolean}
 use Rattle.cil_table_bytes.specs.Layout.{Named, names, Linked, link, linked, IsProper, constraint_limits, sections}
 use Rattle.cil_table_bytes.specs.Sizes.{AreSmall, AreSmallLinks, AreSmallNames, IsSmallAlias, IsSmallClass, IsSmallLink, IsText}
 use Rattle.cil_table_bytes.specs.Told.{links_in, names_in}
 
+-- what each item is, of each item by its place
+all_small : {X : Type 0} (P Q : X → Type 0) → ((x : X) → P x → Q x) → (xs : List X) → AllByRecursion P xs → All Q xs
+all_small P Q leads [] all k d lt = absurd (omega (arith, lt))
+all_small P Q leads (x ∷ xs) all zero d lt = leads x all.0
+all_small P Q leads (x ∷ xs) all (suc k) d lt = all_small P Q leads xs all.1 k d (omega (arith, lt))
+
 section_small : {X : Type 0} (less : List ℕ → List ℕ → Bool) (test : ℕ → Bool) (f : Format X) (IsSmall : X → Type 0) → ((x : X) → f.Fits x → IsSmall x)
     → (xs : List X) → (section less test f).Fits xs → AreSmall IsSmall xs
-section_small less test f IsSmall small xs fits = record { few = fits.0.0; each = by_place IsSmall xs (weaker f.Fits IsSmall small xs fits.1.1) }
+section_small less test f IsSmall small xs fits = record { few = fits.0.0; each = all_small f.Fits IsSmall small xs fits.1.1 }
 
 name_small : (t : List ℕ) → name.Fits t → IsText t
 name_small t fits = fits.0.0.0
@@ -36,7 +42,7 @@ class_small : (c : Class) → class_row.Fits c → IsSmallClass c
 class_small c fits = record {
   name = fits.0.0.0.0.0;
   few = fits.0.1.0.0;
-  texts = by_place IsText c.permissions (weaker permission.Fits IsText permission_small c.permissions fits.0.1.1.0.1);
+  texts = all_small permission.Fits IsText permission_small c.permissions fits.0.1.1.0.1;
 }
 
 boolean_small : (b : Boolean) → boolean.Fits b → IsText b.name
