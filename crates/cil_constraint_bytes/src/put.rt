@@ -1,58 +1,62 @@
 //! The bytes of constraints, put behind those that are there.
 
-ghost use Rattle.std.specs.Prelude.{◌≡◌, ◌<◌, ◌^◌, ◌∷◌, [], ◌++◌, All, OnOk, length};
+ghost use Rattle.std.specs.Prelude.{◌≡◌, ◌++◌, ℕ, List, OnOk};
 ghost use Rattle.std.specs.List.{flat_map};
 ghost use Rattle.cil_constraint_bytes.specs.Layout.{Limits, constraint as layout, constraints as section};
-ghost use Rattle.cil_constraint_bytes.specs.Spelled.{HasSmallSet, IsSmall, step_bytes};
+ghost use Rattle.cil_constraint_bytes.specs.Spelled.{step_bytes};
 
 use crate::bytes::{equality_byte, first_byte, relation_byte, second_byte, variable_byte};
 use cil_base::NoMemory;
 use cil_constraints::{Constraint, Side, Step};
-use cil_format::put_set;
+use cil_format::{Out, give_count, put_set, put_small};
 use std::alloc::Global;
 
-/// The section of constraints: how many there are, and these. Errors: out of memory.
-pub fn put_constraints(
+/// The section of constraints: how many there are, and these, put one by one where bytes go. It costs a step for each byte, and room for the bytes
+/// of one constraint. Errors: out of memory.
+pub fn put_constraints<O: Out>(
     alloc: Global,
-    out: &mut Vec<u8>,
+    out: &mut O,
     constraints: &[Constraint],
 ) -> Result<(), NoMemory>
-    requires few { length constraints.now < 2 ^ 32 }
-    requires small { All IsSmall constraints.now }
-    ensures { (limits : Limits) → OnOk result (out.new.items ≡ out.old.items ++ (section limits).spell constraints.now) }
+    ensures { (limits : Limits) (before : List ℕ) → O.holds out.old before → OnOk result (O.holds out.new (before ++ (section limits).spell constraints.now)) }
 {
-    put_bytes(out, &(constraints.len() as u32).to_be_bytes())?;
-    put_records(alloc, out, constraints)
-}
-
-/// Constraints, one behind the other.
-fn put_records(alloc: Global, out: &mut Vec<u8>, constraints: &[Constraint]) -> Result<(), NoMemory>
-    requires { All IsSmall constraints.now }
-    ensures { (limits : Limits) → OnOk result (out.new.items ≡ out.old.items ++ flat_map (layout limits).spell constraints.now) }
-{
+    let mut buffer = Vec::new(alloc);
+    give_count(out, &mut buffer, constraints.len())?;
     for constraint in constraints {
-        put_constraint(alloc, out, constraint)?;
+        give_constraint(alloc, out, &mut buffer, constraint)?;
     }
     Ok(())
 }
 
+/// A constraint, put where bytes go. What the buffer held is lost.
+fn give_constraint<O: Out>(
+    alloc: Global,
+    out: &mut O,
+    buffer: &mut Vec<u8>,
+    constraint: &Constraint,
+) -> Result<(), NoMemory>
+    ensures { (limits : Limits) (before : List ℕ) → O.holds out.old before → OnOk result (O.holds out.new (before ++ (layout limits).spell constraint.now)) }
+{
+    buffer.clear();
+    put_constraint(alloc, buffer, constraint)?;
+    out.put(buffer)
+}
+
 /// A constraint: its class, its mask and its steps. It costs a step for each byte. Errors: out of memory.
-pub fn put_constraint(
+fn put_constraint(
     alloc: Global,
     out: &mut Vec<u8>,
     constraint: &Constraint,
 ) -> Result<(), NoMemory>
-    requires { IsSmall constraint.now }
     ensures { (limits : Limits) → OnOk result (out.new.items ≡ out.old.items ++ (layout limits).spell constraint.now) }
 {
-    put_bytes(out, &(constraint.class as u16).to_be_bytes())?;
+    put_small(out, constraint.class)?;
     put_bytes(out, &constraint.mask.to_be_bytes())?;
     put_steps(alloc, out, constraint.expr.as_slice())
 }
 
 /// Steps, one behind the other.
 fn put_steps(alloc: Global, out: &mut Vec<u8>, steps: &[Step]) -> Result<(), NoMemory>
-    requires { All HasSmallSet steps.now }
     ensures { OnOk result (out.new.items ≡ out.old.items ++ flat_map step_bytes steps.now) }
 {
     for step in steps {
@@ -63,7 +67,6 @@ fn put_steps(alloc: Global, out: &mut Vec<u8>, steps: &[Step]) -> Result<(), NoM
 
 /// A step: its tag, and what follows it up to the next step.
 fn put_step(alloc: Global, out: &mut Vec<u8>, step: &Step) -> Result<(), NoMemory>
-    requires { HasSmallSet step.now }
     ensures { OnOk result (out.new.items ≡ out.old.items ++ step_bytes step.now) }
 {
     match step {

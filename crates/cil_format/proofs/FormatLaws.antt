@@ -8,7 +8,7 @@ use Rattle.std.proofs.lemmas.List.{take_at, drop_at, take-append-drop, length-ap
 use Rattle.std.proofs.lemmas.List.Concat.{flat_map-cons}
 use Rattle.cil_format.specs.declared.fault.TableFault.{TableFault}
 use Rattle.cil_format.specs.declared.fault.TableFault.TheVariants.{Short, NotCanonical}
-use Rattle.cil_format.specs.Format.{Taken, ◌>>=◌, Format, both, then_read, as_type, keyed, only, refused, judged, checked, number, number_at, run, run_at, many, many_at, comes_after, rise, front_of, judged_after, rising_at, rising_after, each_at, each_fits, each_spelled, each_by}
+use Rattle.cil_format.specs.Format.{Taken, ◌>>=◌, Format, both, then_read, as_type, keyed, only, refused, judged, checked, number, number_at, run, run_at, many, many_at, comes_after, rise, front_of, judged_after, rising_at, rising_after, each_at, each_fits, each_spelled, each_by, spelled_by}
 use Rattle.cil_format.proofs.Bytes.{IsBytes, IsBytes-take, IsBytes-rest, IsWide}
 
 abbrev done : {A : Type 0} → A → Result A TableFault
@@ -120,6 +120,20 @@ module _ {A B : Type 0} (to : A → B) (from : B → A) (f : Format A) (from_to 
 
   pub as_exact : IsExact (as_type to from f)
   as_exact = record { takes = as_takes; again = as_again; stays = as_stays }
+
+-- ---- bytes that are told in another way
+
+module _ {A : Type 0} (spell : A → List ℕ) (f : Format A) (same : (a : A) → f.Fits a → spell a ≡ f.spell a) (exact : IsExact f) where
+  spelled_takes : (bytes : List ℕ) (x : A) (rest : List ℕ) → IsBytes bytes → f.read bytes ≡ Ok (x, rest) → IsTaken (spelled_by spell f) bytes x rest
+  spelled_takes bytes x rest is e =
+      let t = exact.takes bytes x rest is e in
+      record { parts = t.parts ∙ ap (λ (w : List ℕ). w ++ rest) (sym (same x t.fits)); fits = t.fits }
+
+  spelled_again : (x : A) (rest : List ℕ) → f.Fits x → f.read (spell x ++ rest) ≡ Ok (x, rest)
+  spelled_again x rest fits = ap (λ (w : List ℕ). f.read (w ++ rest)) (same x fits) ∙ exact.again x rest fits
+
+  pub spelled_exact : IsExact (spelled_by spell f)
+  spelled_exact = record { takes = spelled_takes; again = spelled_again; stays = exact.stays }
 
 -- ---- a key in front
 

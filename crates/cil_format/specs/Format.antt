@@ -41,6 +41,10 @@ as_type to from f = record {
   read = λ bytes. f.read bytes >>= λ a. Ok (to a.0, a.1);
 }
 
+-- the same values, whose bytes are told in another way
+abbrev pub spelled_by : {A : Type 0} → (A → List ℕ) → Format A → Format A
+spelled_by spell f = record { Fits = f.Fits; spell = spell; read = f.read }
+
 -- what a value has in front (a size, a tag), and then the value in the format that this asks for
 abbrev pub keyed : {K A : Type 0} → (A → K) → Format K → (K → Format A) → Format A
 keyed key front body = record {

@@ -1,37 +1,19 @@
 //! Names, aliases and sets of categories, put behind the bytes that are there.
 
-ghost use Rattle.std.specs.Prelude.{◌≡◌, ◌<◌, ◌≤◌, ◌^◌, ◌++◌, [], All, IfOk, OnOk, length};
-ghost use Rattle.std.specs.Int.{w16, w32, to_be_bytes};
+ghost use Rattle.std.specs.Prelude.{◌≡◌, ◌++◌, [], IfOk, OnOk};
+ghost use Rattle.std.specs.Int.{w16, to_be_bytes};
 ghost use Rattle.std.specs.List.{flat_map};
 ghost use Rattle.cil_format.specs.Fields.{text};
 ghost use Rattle.cil_label_bytes.specs.Layout as layout;
 ghost use Rattle.cil_label_bytes.specs.Sets as sets;
 
 use cil_base::{Bytes, NoMemory};
-use cil_format::put_text;
+use cil_format::{put_count, put_small, put_text};
 use cil_mls::{Categories, MOST_CATEGORIES, Named};
 use std::alloc::Global;
 
-/// How many records there are. Errors: out of memory.
-pub fn put_count(out: &mut Vec<u8>, count: usize) -> Result<(), NoMemory>
-    requires { count < 2 ^ 32 }
-    ensures { OnOk result (out.new.items ≡ out.old.items ++ to_be_bytes w32 count) }
-{
-    out.extend_from_slice(&(count as u32).to_be_bytes())?;
-    Ok(())
-}
-
-/// A number of two bytes. Errors: out of memory.
-pub fn put_small(out: &mut Vec<u8>, number: u16) -> Result<(), NoMemory>
-    ensures { OnOk result (out.new.items ≡ out.old.items ++ to_be_bytes w16 number) }
-{
-    out.extend_from_slice(&number.to_be_bytes())?;
-    Ok(())
-}
-
 /// Names, one behind the other. Errors: out of memory.
 pub fn put_names(out: &mut Vec<u8>, names: &[Bytes]) -> Result<(), NoMemory>
-    requires { All (λ name. length name < 2 ^ 32) names.now }
     ensures { OnOk result (out.new.items ≡ out.old.items ++ flat_map text.spell names.now) }
 {
     for name in names {
@@ -42,8 +24,6 @@ pub fn put_names(out: &mut Vec<u8>, names: &[Bytes]) -> Result<(), NoMemory>
 
 /// A section of aliases. Errors: out of memory.
 pub fn put_aliases(out: &mut Vec<u8>, aliases: &[Named]) -> Result<(), NoMemory>
-    requires few { length aliases.now < 2 ^ 32 }
-    requires small { All (λ a. (length a.name < 2 ^ 32) × (a.place < 2 ^ 16)) aliases.now }
     ensures { OnOk result (out.new.items ≡ out.old.items ++ (layout.aliases []).spell aliases.now) }
 {
     put_count(out, aliases.len())?;
@@ -52,7 +32,6 @@ pub fn put_aliases(out: &mut Vec<u8>, aliases: &[Named]) -> Result<(), NoMemory>
 
 /// Aliases, one behind the other.
 fn put_rows(out: &mut Vec<u8>, aliases: &[Named]) -> Result<(), NoMemory>
-    requires { All (λ a. (length a.name < 2 ^ 32) × (a.place < 2 ^ 16)) aliases.now }
     ensures { OnOk result (out.new.items ≡ out.old.items ++ flat_map (layout.alias []).spell aliases.now) }
 {
     for alias in aliases {
@@ -63,11 +42,10 @@ fn put_rows(out: &mut Vec<u8>, aliases: &[Named]) -> Result<(), NoMemory>
 
 /// An alias: its name, and the place for which it stands.
 fn put_alias(out: &mut Vec<u8>, alias: &Named) -> Result<(), NoMemory>
-    requires { (length alias.now.name < 2 ^ 32) × (alias.now.place < 2 ^ 16) }
     ensures { OnOk result (out.new.items ≡ out.old.items ++ (layout.alias []).spell alias.now) }
 {
     put_text(out, alias.name.as_slice())?;
-    put_small(out, alias.place as u16)
+    put_small(out, alias.place)
 }
 
 /// A set of categories. Errors: out of memory.
@@ -75,14 +53,13 @@ pub fn put_categories(alloc: Global, out: &mut Vec<u8>, set: &Categories) -> Res
     ensures { OnOk result (out.new.items ≡ out.old.items ++ (sets.categories_below 0).spell set.now) }
 {
     let members = members_of(alloc, set)?;
-    put_small(out, members.len() as u16)?;
+    put_small(out, members.len())?;
     put_numbers(out, &members)
 }
 
 /// The categories of a set, rising.
 fn members_of(alloc: Global, set: &Categories) -> Result<Vec<u16>, NoMemory>
-    ensures members { IfOk result (λ members. members.items ≡ sets.numbers_in set.now) }
-    ensures few { IfOk result (λ members. length members.items ≤ 1024) }
+    ensures { IfOk result (λ members. members.items ≡ sets.numbers_in set.now) }
 {
     let mut members = Vec::new(alloc);
     for category in 0..MOST_CATEGORIES {
@@ -98,7 +75,7 @@ fn put_numbers(out: &mut Vec<u8>, numbers: &[u16]) -> Result<(), NoMemory>
     ensures { OnOk result (out.new.items ≡ out.old.items ++ flat_map (to_be_bytes w16) numbers.now) }
 {
     for number in numbers {
-        put_small(out, *number)?;
+        put_small(out, *number as usize)?;
     }
     Ok(())
 }

@@ -8,10 +8,11 @@ use Rattle.cil_format.specs.Fields.{below, set, small}
 use Rattle.cil_format.specs.Format.{Format, as_type, both, choose, number, only, refused}
 use Rattle.cil_format.proofs.Bytes.{wide8, wide32}
 use Rattle.cil_format.proofs.FieldLaws.{choose_exact, chosen_tells, section_exact, set_exact, small_exact}
-use Rattle.cil_format.proofs.FormatLaws.{IsExact, as_exact, both_exact, checked_exact, keyed_exact, number_exact, only_exact, refused_exact}
+use Rattle.cil_format.proofs.FormatLaws.{IsExact, as_exact, both_exact, checked_exact, keyed_exact, number_exact, only_exact, refused_exact, spelled_exact}
 use Rattle.cil_rules.specs.Rule.{Target, Types, Itself}
 use Rattle.cil_rule_bytes.specs.Conditions.{Condition, boolean, opposite, joined, Junction, conjoined, disjoined, parted, matched, unmatched, tokens_of, tree_in}
-use Rattle.cil_rule_bytes.specs.Layout.{Limits, condition_tag, boolean_of, only_part, two_parts, joined_parts, node, tree, condition, condition_of, branch_rank, in_branch, branch_by, branch, types_of, target_tag, target_by, target, mask, on_class, parts, rule_of, parts_of, says_some, any_rule, rule, rules, sections_of, three_of, rule_sections}
+use Rattle.cil_rule_bytes.specs.Layout.{Limits, condition_tag, boolean_of, only_part, two_parts, joined_parts, node, tokens_bytes, tree, tree_tokens, condition, condition_of, branch_rank, in_branch, branch_by, branch, types_of, target_tag, target_by, target, mask, on_class, parts, rule_of, parts_of, says_some, any_rule, rule, rules, sections_of, three_of, rule_sections}
+use Rattle.cil_rule_bytes.proofs.SpellLemmas.{tokens_spelled}
 use Rattle.cil_rule_bytes.proofs.Trees.{one_tree}
 
 -- ---- conditions
@@ -74,7 +75,9 @@ tree_exact booleans (suc depth) =
 
 pub condition_exact : (booleans : ℕ) → IsExact (condition booleans)
 unfolding condition
-condition_exact booleans = as_exact tokens_of tree_in (tree booleans 128) (λ c fits. one_tree c) (tree_exact booleans 128)
+condition_exact booleans =
+    spelled_exact tokens_bytes (tree_tokens booleans) (λ ts fits. sym (tokens_spelled booleans ts fits).bytes_are)
+    (as_exact tokens_of tree_in (tree booleans 128) (λ c fits. one_tree c) (tree_exact booleans 128))
 
 -- ---- branches
 

@@ -18,9 +18,8 @@ use Rattle.cil_format.proofs.SortedRecords.{is_less, sorted_records}
 use Rattle.cil_format.proofs.Orders.{order16, order32, set_order}
 use Rattle.cil_rules.specs.Order.{in_branch_cmp, rule_cmp, rule_total, set_fields, target_fields}
 use Rattle.cil_rules.specs.Rule.{Rule, Target, Types, Itself}
-use Rattle.cil_rule_bytes.specs.Layout.{Limits, branch, condition, on_class, rule, target}
-use Rattle.cil_rule_bytes.specs.Spelled.{tokens_bytes}
-use Rattle.cil_rule_bytes.proofs.SpellLemmas.{condition_spelled, fits_expression}
+use Rattle.cil_rule_bytes.specs.Layout.{Limits, branch, condition, on_class, rule, target, tokens_bytes}
+use Rattle.cil_rule_bytes.proofs.SpellLemmas.{condition_bytes, condition_small, fits_expression}
 use Rattle.cil_rule_bytes.proofs.TokenOrder.{then_assoc, tokens_order}
 
 -- bytes that differ by this order, whatever follows them, or tie
@@ -39,14 +38,12 @@ both_differ one two three four o p d e = record {
 
 condition_differ : (booleans : ℕ) (ts us : List Token) → (condition booleans).Fits ts → (condition booleans).Fits us
     → Differ ((condition booleans).spell ts) ((condition booleans).spell us) (slice_cmp token_cmp ts us)
-condition_differ booleans ts us p q =
-    let one = condition_spelled booleans ts p in
-    let two = condition_spelled booleans us q in
-    record {
-      behind = λ xs ys.
-          ap (λ (w : List ℕ). text_cmp (w ++ xs) ((condition booleans).spell us ++ ys)) one.bytes_are ∙ ap (λ (w : List ℕ). text_cmp (tokens_bytes ts ++ xs) (w ++ ys)) two.bytes_are
-          ∙ tokens_order 1 ts us xs ys (fits_expression booleans ts p) (fits_expression booleans us q) one.small two.small;
-    }
+condition_differ booleans ts us p q = record {
+  behind = λ xs ys.
+      ap (λ (w : List ℕ). text_cmp (w ++ xs) ((condition booleans).spell us ++ ys)) (condition_bytes booleans ts)
+      ∙ ap (λ (w : List ℕ). text_cmp (tokens_bytes ts ++ xs) (w ++ ys)) (condition_bytes booleans us)
+      ∙ tokens_order 1 ts us xs ys (fits_expression booleans ts p) (fits_expression booleans us q) (condition_small booleans ts p) (condition_small booleans us q);
+}
 
 abbrev some_of : List Token → Bool → Option Branch
 some_of ts value = Some (record { condition = ts; value = value })

@@ -8,8 +8,7 @@ use Rattle.cil_conditions.specs.declared.token.Token.TheVariants as tokens
 use Rattle.cil_conditions.specs.Order.{number_of}
 use Rattle.cil_conditions.specs.Truth.{IsExpression}
 use Rattle.cil_rule_bytes.specs.Conditions.{Condition, boolean, opposite, joined, conjoined, disjoined, parted, matched, unmatched, tokens_of, tree_in}
-use Rattle.cil_rule_bytes.specs.Layout.{condition, tree}
-use Rattle.cil_rule_bytes.specs.Spelled.{token_bytes, tokens_bytes}
+use Rattle.cil_rule_bytes.specs.Layout.{condition, token_bytes, tokens_bytes, tree, tree_tokens}
 use Rattle.cil_rule_bytes.proofs.Trees.{is_expression}
 
 -- the number of a boolean has two bytes
@@ -59,11 +58,20 @@ tree_spelled booleans (suc depth) (joined unmatched c d) fits =
     one_operator tokens.Unequal 7 ((tree booleans depth).spell c ++ (tree booleans depth).spell d) (tokens_of c ++ tokens_of d) refl (omega arith)
     (two_behind _ _ _ _ (tree_spelled booleans depth c fits.1.0.0) (tree_spelled booleans depth d fits.1.0.1))
 
--- the bytes of a condition, by its tokens
-pub condition_spelled : (booleans : ℕ) (ts : List Token) → (condition booleans).Fits ts → IsSpelled ((condition booleans).spell ts) ts
-unfolding condition
-condition_spelled booleans ts fits =
+-- the bytes of a tree, by its tokens
+pub tokens_spelled : (booleans : ℕ) (ts : List Token) → (tree_tokens booleans).Fits ts → IsSpelled ((tree_tokens booleans).spell ts) ts
+tokens_spelled booleans ts fits =
     subst (λ (w : List Token). IsSpelled ((tree booleans 128).spell (tree_in ts)) w) fits.1 (tree_spelled booleans 128 (tree_in ts) fits.0)
+
+-- the numbers in a condition that is laid out are small
+pub condition_small : (booleans : ℕ) (ts : List Token) → (condition booleans).Fits ts → AllByRecursion IsSmall ts
+unfolding condition
+condition_small booleans ts fits = (tokens_spelled booleans ts fits).small
+
+-- the bytes of a condition are those of its tokens
+pub condition_bytes : (booleans : ℕ) (ts : List Token) → (condition booleans).spell ts ≡ tokens_bytes ts
+unfolding condition
+condition_bytes booleans ts = refl
 
 -- tokens that are laid out are one expression
 pub fits_expression : (booleans : ℕ) (ts : List Token) → (condition booleans).Fits ts → IsExpression ts

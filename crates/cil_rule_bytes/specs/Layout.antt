@@ -1,12 +1,14 @@
 -- How rules are laid out: sections 14, 15 and 16 of tables. This project's profile.
 use Rattle.std.specs.Prelude.{ℕ, zero, suc, ◌^◌, Bool, true, false, List, [], ◌∷◌, length, get_or, Option, Some, None, nat_le, nat_lt, ◌==◌, ◌&&◌}
-use Rattle.std.specs.Int.{w8, w32}
+use Rattle.std.specs.Int.{w8, w16, w32, to_be_bytes}
+use Rattle.std.specs.List.{flat_map}
 use Rattle.cil_conditions.specs.declared.branch.Branch.{Branch}
 use Rattle.cil_conditions.specs.declared.token.Token.{Token}
+use Rattle.cil_conditions.specs.declared.token.Token.TheVariants as tokens
 use Rattle.cil_conditions.specs.Order.{branch_tag, tag_of}
 use Rattle.cil_format.specs.declared.fault.TableFault.TheVariants.{NotCanonical, OutOfRange}
 use Rattle.cil_format.specs.Fields.{below, set, small}
-use Rattle.cil_format.specs.Format.{Format, as_type, both, checked, choose, keyed, number, only, refused, section}
+use Rattle.cil_format.specs.Format.{Format, as_type, both, checked, choose, keyed, number, only, refused, section, spelled_by}
 use Rattle.cil_index.specs.Sections.{RuleSections}
 use Rattle.cil_rules.specs.Rule.{Rule, Target, Types, Itself}
 use Rattle.cil_rule_bytes.specs.Conditions.{Condition, boolean, opposite, joined, Junction, conjoined, disjoined, parted, matched, unmatched, junction_token, tokens_of, tree_in}
@@ -57,9 +59,26 @@ unfoldable pub tree : ℕ → ℕ → Format Condition
 tree booleans zero = refused OutOfRange
 tree booleans (suc depth) = keyed condition_tag (number w8 (2 ^ 8)) (node booleans (tree booleans depth))
 
--- a condition as it is kept: its tokens
+-- the number of a boolean; nothing for an operator
+abbrev pub number_bytes : Token → List ℕ
+number_bytes (tokens.Boolean n) = to_be_bytes w16 n
+number_bytes t = []
+
+-- its tag, and the number of a boolean
+abbrev pub token_bytes : Token → List ℕ
+token_bytes t = tag_of t ∷ number_bytes t
+
+-- the bytes of tokens, one after another
+abbrev pub tokens_bytes : List Token → List ℕ
+tokens_bytes = flat_map token_bytes
+
+-- the tokens of a tree
+abbrev pub tree_tokens : ℕ → Format (List Token)
+tree_tokens booleans = as_type tokens_of tree_in (tree booleans 128)
+
+-- a condition as it is kept: its tokens, the first of which are those of the outermost operator, so their bytes are those of the tree
 unfoldable pub condition : ℕ → Format (List Token)
-condition booleans = as_type tokens_of tree_in (tree booleans 128)
+condition booleans = spelled_by tokens_bytes (tree_tokens booleans)
 
 -- ---- the branch in which a rule counts
 

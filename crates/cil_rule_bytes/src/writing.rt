@@ -1,26 +1,16 @@
-//! The bytes of rules, put behind those that are there.
+//! The bytes of rules, put behind those that are there, and rules put where bytes go.
 
-ghost use Rattle.std.specs.Prelude.{◌≡◌, ◌<◌, ◌^◌, ◌++◌, ℕ, All, OnOk, length};
-ghost use Rattle.std.specs.Int.{w16, to_be_bytes};
+ghost use Rattle.std.specs.Prelude.{◌≡◌, ◌++◌, ℕ, List, OnOk};
 ghost use Rattle.cil_index.specs.Listed.{branch_listed, members_of, rule_listed, target_listed};
 ghost use Rattle.cil_format.specs.Fields.{set};
-ghost use Rattle.cil_rule_bytes.specs.Layout.{Limits, rule_sections, rules as rules_format, target as target_format, types_of};
-ghost use Rattle.cil_rule_bytes.specs.Spelled.{HasLayout, HaveLayout, branch_bytes, HaveLayouts, rule_bytes, token_bytes, tokens_bytes};
+ghost use Rattle.cil_rule_bytes.specs.Layout.{Limits, rule_sections, rules as rules_format, target as target_format, token_bytes, tokens_bytes};
+ghost use Rattle.cil_rule_bytes.specs.Spelled.{branch_bytes, rule_bytes};
 
 use cil_base::NoMemory;
 use cil_conditions::{Branch, Token};
-use cil_format::put_set;
+use cil_format::{Out, give_count, put_set, put_small};
 use cil_index::{ListedRule, ListedRules, ListedTarget, Sections, TypeSet};
 use std::alloc::Global;
-
-/// A number in two bytes: of a larger one the lower two, but no layout has such a one.
-fn put_small(out: &mut Vec<u8>, number: u32) -> Result<(), NoMemory>
-    ensures { OnOk result (out.new.items ≡ out.old.items ++ to_be_bytes w16 number) }
-{
-    let four = number.to_be_bytes();
-    out.extend_from_slice(&[four[2], four[3]])?;
-    Ok(())
-}
 
 // ---- branches
 
@@ -30,7 +20,7 @@ fn put_token(out: &mut Vec<u8>, token: Token) -> Result<(), NoMemory>
 {
     out.push(token.tag())?;
     match token {
-        Token::Boolean(number) => put_small(out, number),
+        Token::Boolean(number) => put_small(out, number as usize),
         _ => Ok(()),
     }
 }
@@ -61,15 +51,13 @@ fn put_branch(out: &mut Vec<u8>, branch: Option<&Branch>) -> Result<(), NoMemory
 
 /// A set of types.
 fn put_types(alloc: Global, out: &mut Vec<u8>, types: TypeSet) -> Result<(), NoMemory>
-    requires few { length (members_of types) < 2 ^ 16 }
-    requires small { All (λ n. n < 2 ^ 16) (members_of types) }
     ensures { OnOk result (out.new.items ≡ out.old.items ++ (set 0).spell (members_of types.entry)) }
 {
     match types {
         TypeSet::Empty => put_small(out, 0),
         TypeSet::One(number) => {
             put_small(out, 1)?;
-            put_small(out, number)
+            put_small(out, number as usize)
         }
         TypeSet::Several(numbers) => put_set(alloc, out, numbers),
     }
@@ -77,8 +65,6 @@ fn put_types(alloc: Global, out: &mut Vec<u8>, types: TypeSet) -> Result<(), NoM
 
 /// What a rule reaches.
 fn put_target(alloc: Global, out: &mut Vec<u8>, target: ListedTarget) -> Result<(), NoMemory>
-    requires few { length (types_of (target_listed target)) < 2 ^ 16 }
-    requires small { All (λ n. n < 2 ^ 16) (types_of (target_listed target)) }
     ensures { OnOk result (out.new.items ≡ out.old.items ++ (target_format 0).spell (target_listed target.entry)) }
 {
     match target {
@@ -97,34 +83,50 @@ fn put_target(alloc: Global, out: &mut Vec<u8>, target: ListedTarget) -> Result<
 
 /// A rule.
 fn put_rule(alloc: Global, out: &mut Vec<u8>, rule: ListedRule) -> Result<(), NoMemory>
-    requires { HasLayout (rule_listed rule) }
     ensures { OnOk result (out.new.items ≡ out.old.items ++ rule_bytes (rule_listed rule.entry)) }
 {
     put_branch(out, rule.branch)?;
     put_types(alloc, out, rule.source)?;
     put_target(alloc, out, rule.target)?;
-    put_small(out, rule.class)?;
+    put_small(out, rule.class as usize)?;
     out.extend_from_slice(&rule.mask.to_be_bytes())?;
     Ok(())
 }
 
-/// A section of rules: how many there are, and these. Errors: out of memory.
-pub fn put_rules(alloc: Global, out: &mut Vec<u8>, rules: &ListedRules) -> Result<(), NoMemory>
-    requires { HaveLayout rules.now }
-    ensures { (limits : Limits) → (rules_format limits).Fits rules.now → OnOk result (out.new.items ≡ out.old.items ++ (rules_format limits).spell rules.now) }
+/// A rule, put where bytes go: first behind nothing in a buffer, for which it takes no more room than the largest rule.
+fn give_rule<O: Out>(
+    alloc: Global,
+    out: &mut O,
+    buffer: &mut Vec<u8>,
+    rule: ListedRule,
+) -> Result<(), NoMemory>
+    ensures { (before : List ℕ) → O.holds out.old before → OnOk result (O.holds out.new (before ++ rule_bytes (rule_listed rule.entry))) }
 {
-    out.extend_from_slice(&(rules.len() as u32).to_be_bytes())?;
+    buffer.clear();
+    put_rule(alloc, buffer, rule)?;
+    out.put(buffer)
+}
+
+/// A section of rules: how many there are, and these, put one by one. Errors: out of memory.
+pub fn put_rules<O: Out>(alloc: Global, out: &mut O, rules: &ListedRules) -> Result<(), NoMemory>
+    ensures { (limits : Limits) (before : List ℕ) → O.holds out.old before → OnOk result (O.holds out.new (before ++ (rules_format limits).spell rules.now)) }
+{
+    let mut buffer = Vec::new(alloc);
+    give_count(out, &mut buffer, rules.len())?;
     for place in 0..rules.len() {
-        put_rule(alloc, out, rules.rule(place))?;
+        give_rule(alloc, out, &mut buffer, rules.rule(place))?;
     }
     Ok(())
 }
 
-/// The rules of sections 14, 15 and 16, one section behind the other. It costs a step for each byte. Errors: out of memory.
-#[tactic(auto, unfolding(crate::specs::Layout::rule_sections))]
-pub fn put_sections(alloc: Global, out: &mut Vec<u8>, sections: &Sections) -> Result<(), NoMemory>
-    requires { HaveLayouts sections.now }
-    ensures { (limits : Limits) → (rule_sections limits).Fits sections.now → OnOk result (out.new.items ≡ out.old.items ++ (rule_sections limits).spell sections.now) }
+/// The rules of sections 14, 15 and 16, one section behind the other. It costs a step for each byte, and room for the bytes of one rule. Errors: out
+/// of memory.
+pub fn put_sections<O: Out>(
+    alloc: Global,
+    out: &mut O,
+    sections: &Sections,
+) -> Result<(), NoMemory>
+    ensures { (limits : Limits) (before : List ℕ) → O.holds out.old before → OnOk result (O.holds out.new (before ++ (rule_sections limits).spell sections.now)) }
 {
     let allow = sections.allow();
     put_rules(alloc, out, &allow)?;

@@ -4,6 +4,5 @@ mod NewNames
 mod Orderly
 mod Proper
 mod Rows
-mod SizeLemmas
 pub mod TableLaws
 mod WriteLemmas

@@ -1,6 +1,6 @@
 pub mod Laws
 pub mod Layout
+pub mod Measured
 pub mod Names
 pub mod Parts
-pub mod Sizes
 pub mod Told

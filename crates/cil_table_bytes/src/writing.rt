@@ -1,21 +1,22 @@
 //! Tables to their bytes.
 
-ghost use Rattle.std.specs.Prelude.{◌≡◌, ◌++◌, IfOk, OnOk, map};
-ghost use Rattle.cil_tables.specs.Holders.{link_to};
+ghost use Rattle.std.specs.Prelude.{◌≡◌, ◌++◌, ℕ, List, IfOk, OnOk};
+ghost use Rattle.cil_label_bytes.specs.Layout.{labels};
 ghost use Rattle.cil_table_bytes.specs.Layout as layout;
-ghost use Rattle.cil_table_bytes.specs.Sizes.{AreSmall, AreSmallLinks, AreSmallNames, IsSmallLink};
-ghost use Rattle.cil_table_bytes.specs.Told.{links_in, names_in};
+ghost use Rattle.cil_table_bytes.specs.Told.{names_in};
 
 use crate::put::{put_flag, put_section};
+use crate::put_links::put_linked;
 use cil_base::NoMemory;
 use cil_constraint_bytes::put_constraints;
+use cil_format::Out;
 use cil_label_bytes::put_labels;
 use cil_rule_bytes::put_sections;
-use cil_tables::{Link, Links, Tables};
+use cil_tables::Tables;
 use std::alloc::Global;
 
-#[tactic(auto, unfolding(crate::specs::Layout::magic))]
 /// The header: the bytes by which tables are known, the layout, and whether contexts have levels.
+#[tactic(auto, unfolding(crate::specs::Layout::magic))]
 fn put_header(out: &mut Vec<u8>, are_on: bool) -> Result<(), NoMemory>
     ensures { OnOk result (out.new.items ≡ out.old.items ++ layout.header.spell are_on) }
 {
@@ -26,7 +27,6 @@ fn put_header(out: &mut Vec<u8>, are_on: bool) -> Result<(), NoMemory>
 /// Sections 6 to 10.
 #[tactic(auto, unfolding(crate::specs::Layout::names))]
 fn put_names(out: &mut Vec<u8>, tables: &Tables) -> Result<(), NoMemory>
-    requires { AreSmallNames (names_in tables.now) }
     ensures { OnOk result (out.new.items ≡ out.old.items ++ layout.names.spell (names_in tables.now)) }
 {
     put_section(out, tables.roles())?;
@@ -36,64 +36,33 @@ fn put_names(out: &mut Vec<u8>, tables: &Tables) -> Result<(), NoMemory>
     put_section(out, tables.booleans())
 }
 
-/// The links of one holder, behind those that are there.
-fn push_row(all: &mut Vec<Link>, holder: usize, row: &[usize]) -> Result<(), NoMemory>
-    ensures { OnOk result (all.new.items ≡ all.old.items ++ map (link_to holder) row.now) }
+/// The header, levels and names: sections 1 to 10.
+fn front_of(alloc: Global, tables: &Tables) -> Result<Vec<u8>, NoMemory>
+    ensures { IfOk result (λ front. front.items ≡ layout.header.spell tables.now.levels.are_on
+        ++ ((labels tables.now.levels.are_on).spell (record { levels = tables.now.levels; users = tables.now.users }) ++ layout.names.spell (names_in tables.now))) }
 {
-    for held in row {
-        all.push(Link {
-            holder,
-            held: *held,
-        })?;
-    }
-    Ok(())
+    let mut front = Vec::new(alloc);
+    put_header(&mut front, tables.levels().are_on())?;
+    put_labels(alloc, &mut front, tables.levels(), tables.users())?;
+    put_names(&mut front, tables)?;
+    Ok(front)
 }
 
-/// Links as they are listed. Errors: out of memory.
-fn listed(alloc: Global, links: &Links) -> Result<Vec<Link>, NoMemory>
-    ensures { IfOk result (λ all. all.items ≡ links.now) }
+/// Puts the bytes of tables where bytes go: those of sections 1 to 10 at once, then those of each holder, rule and constraint. Errors: out of memory.
+pub fn put_tables<O: Out>(alloc: Global, out: &mut O, tables: &Tables) -> Result<(), NoMemory>
+    ensures { (before : List ℕ) → O.holds out.old before → OnOk result (O.holds out.new (before ++ layout.layout tables.now)) }
 {
-    let mut all = Vec::new(alloc);
-    let rows = links.rows();
-    for holder in 0..rows.len() {
-        let row = rows[holder].to_vec(alloc)?;
-        push_row(&mut all, holder, &row)?;
-    }
-    Ok(all)
-}
-
-/// Sections 11 to 13. Errors: out of memory.
-#[tactic(auto, unfolding(crate::specs::Layout::linked))]
-fn put_linked(alloc: Global, out: &mut Vec<u8>, tables: &Tables) -> Result<(), NoMemory>
-    requires { AreSmallLinks (links_in tables.now) }
-    ensures { OnOk result (out.new.items ≡ out.old.items ++ (layout.linked 0 0 0).spell (links_in tables.now)) }
-{
-    put_links(alloc, out, tables.user_roles())?;
-    put_links(alloc, out, tables.role_types())?;
-    put_links(alloc, out, tables.role_allows())
-}
-
-/// A section of links. Errors: out of memory.
-fn put_links(alloc: Global, out: &mut Vec<u8>, links: &Links) -> Result<(), NoMemory>
-    requires { AreSmall IsSmallLink links.now }
-    ensures { OnOk result (out.new.items ≡ out.old.items ++ (layout.links 0 0).spell links.now) }
-{
-    let all = listed(alloc, links)?;
-    put_section(out, &all)
+    out.put(&front_of(alloc, tables)?)?;
+    put_linked(alloc, out, tables)?;
+    put_sections(alloc, out, tables.rules())?;
+    put_constraints(alloc, out, tables.constraints())
 }
 
 /// The bytes of tables. It costs a step for each byte, and 1,024 for each set of categories. Errors: out of memory.
-#[tactic(auto, unfolding(crate::specs::Layout::layout, crate::specs::Layout::sections))]
 pub fn encode(alloc: Global, tables: &Tables) -> Result<Vec<u8>, NoMemory>
-    requires { layout.IsProper tables.now }
     ensures { IfOk result (λ bytes. bytes.items ≡ layout.layout tables.now) }
 {
     let mut out = Vec::new(alloc);
-    put_header(&mut out, tables.levels().are_on())?;
-    put_labels(alloc, &mut out, tables.levels(), tables.users())?;
-    put_names(&mut out, tables)?;
-    put_linked(alloc, &mut out, tables)?;
-    put_sections(alloc, &mut out, tables.rules())?;
-    put_constraints(alloc, &mut out, tables.constraints())?;
+    put_tables(alloc, &mut out, tables)?;
     Ok(out)
 }

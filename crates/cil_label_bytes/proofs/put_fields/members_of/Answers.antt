@@ -1,5 +1,4 @@
-use Rattle.std.proofs.Common.{◌∙◌, ◌∷◌, [], arith, sym}
-use Rattle.std.proofs.lemmas.List.{length-append}
+use Rattle.std.proofs.Common.{◌∙◌, sym}
 use Rattle.cil_mls.specs.Bits.{in_words}
 use Rattle.cil_label_bytes.specs.Sets.{numbers_in}
 use Rattle.cil_label_bytes.proofs.MemberLemmas.{member_in, member_out, members_all}
@@ -9,19 +8,15 @@ use Rattle.cil_label_bytes.proofs.put_fields.members_of.Goals.{then-has+in_ok-pu
 pub loop-category-preserved : goal.loop-category-preserved
 loop-category-preserved c = elim c.if-has.branch [
   | then-has+in_ok-push w ↦
-      rw (w.members-is, w.in_ok-push.ensures.items) (
-        member_in (in_words c.args.set.now.words) c.loop-category.members.items 1024 c.loop-category.category (numbers_in c.args.set.now) c.loop-category-test.true
-            (sym c.has.ensures ∙ w.if-has.true) c.loop-category.invariant.0,
-        omega (arith, c.loop-category.invariant.1, length-append c.loop-category.members.items (c.loop-category.category ∷ [])),
-      )
+      rw (w.members-is, w.in_ok-push.ensures.items)
+      (member_in (in_words c.args.set.now.words) c.loop-category.members.items 1024 c.loop-category.category (numbers_in c.args.set.now) c.loop-category-test.true
+      (sym c.has.ensures ∙ w.if-has.true) c.loop-category.invariant)
   | else-has w ↦
-      rw w.members-is (
-        member_out (in_words c.args.set.now.words) c.loop-category.members.items 1024 c.loop-category.category (numbers_in c.args.set.now) c.loop-category-test.true
-            (sym c.has.ensures ∙ w.if-has.false) c.loop-category.invariant.0,
-        omega (arith, c.loop-category.invariant.1),
-      )
+      rw w.members-is
+      (member_out (in_words c.args.set.now.words) c.loop-category.members.items 1024 c.loop-category.category (numbers_in c.args.set.now) c.loop-category-test.true
+      (sym c.has.ensures ∙ w.if-has.false) c.loop-category.invariant)
 ]
 
-pub returns-clause-members : goal.returns-clause-members
-returns-clause-members c =
-    members_all (in_words c.args.set.now.words) c.loop-category.members.items 1024 c.loop-category.category (numbers_in c.args.set.now) c.loop-category-test.false c.loop-category.invariant.0
+pub returns : goal.returns
+returns c =
+    members_all (in_words c.args.set.now.words) c.loop-category.members.items 1024 c.loop-category.category (numbers_in c.args.set.now) c.loop-category-test.false c.loop-category.invariant

@@ -1,5 +1,5 @@
 use Rattle.std.specs.Prelude.{◌≡◌, ◌++◌, take}
-use Rattle.cil_rule_bytes.specs.Spelled.{tokens_bytes}
+use Rattle.cil_rule_bytes.specs.Layout.{tokens_bytes}
 use Rattle.cil_rule_bytes.proofs.writing.put_tokens.Given as goal
 
 abbrev pub invariant-loop-token : goal.invariant-loop-token
