@@ -1,0 +1,3 @@
+mod CacheLemmas
+mod Keys
+pub mod TrueCache
