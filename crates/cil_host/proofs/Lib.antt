@@ -1,3 +1,4 @@
+mod CacheLemmas
 pub mod QueryLemmas
 pub mod CheckLemmas
 pub mod ListLemmas

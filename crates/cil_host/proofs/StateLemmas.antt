@@ -1,5 +1,5 @@
 -- The model host after a load, and after a boolean was set.
-use Rattle.std.specs.Prelude.{◌↔◌, Bool, Option, Some, Result, Ok, Err}
+use Rattle.std.specs.Prelude.{◌↔◌, Bool, Option, Some, Result, Ok, Err, IfErr}
 use Rattle.std.specs.Result.{IsErrAnd}
 use Rattle.std.specs.Option.{option_map}
 use Rattle.std.proofs.Common.{◌≡◌, ℕ, List, refl, sym, ◌∙◌, ap, subst}
@@ -10,12 +10,11 @@ use Rattle.cil_faults.specs.declared.failure.Failure.TheVariants.{NoMemory}
 use Rattle.cil_tables.specs.CompileAnswer.{IsCompiled}
 use Rattle.cil_tables.specs.CompileRefusal.{CompileFails}
 use Rattle.cil_tables.specs.Table.{boolean_names}
-use Rattle.cil_tables.specs.declared.compiler.Compiled.{Compiled}
 use Rattle.cil_decide.specs.Decides.{IsOnAtFirst}
 use Rattle.cil_host.specs.declared.host.Loaded.{Loaded}
 use Rattle.cil_host.specs.declared.host.Policy.{Policy}
 use Rattle.cil_host.specs.Machine.{CanLoad, State, accepted_of, same_state}
-use Rattle.cil_host.specs.Refusal.{Loads, no_bytes}
+use Rattle.cil_host.specs.Refusal.{IsPolicyOf, IsTold, Loads}
 use Rattle.cil_host.specs.Sets.{HasBoolean, IsSet}
 use Rattle.cil_host.specs.Settings.{IsDefaultOn, IsSetTo, on_names}
 use Rattle.cil_host.proofs.SettingLemmas.{defaults_listed}
@@ -37,20 +36,26 @@ module _ (h : State) (m : List (List ℕ)) (v w : List ℕ) (o : Option Policy) 
   }
 
   -- the modules of the host were compiled, and each boolean has its default
-  pub loads : (k : List (List ℕ)) (c : Compiled) → k ≡ m → IsCompiled m c → ((n : ℕ) → IsOn w n ↔ IsOnAtFirst c.tables.booleans n)
-      → Loads h (record { modules = m; loaded = Some (accepted_of w (record { compiled = c; modules = k })) }) (Ok no_bytes)
-  loads k c same is first =
+  pub loads : (k : List (List ℕ)) (p : Policy) (loaded : Loaded) → k ≡ m → IsPolicyOf k p loaded → ((n : ℕ) → IsOn w n ↔ IsOnAtFirst p.compiled.tables.booleans n)
+      → Loads h (record { modules = m; loaded = Some (accepted_of w p) }) (Ok loaded)
+  loads k p loaded same of first =
+      let c = p.compiled in
+      let is : IsCompiled m c = subst (λ z. IsCompiled z c) same of.compiled in
       let on = on_names (is_on w) (boolean_names c.tables.booleans) in (
         c.why.items,
         on,
         subst (λ z. CanLoad z c.why.items) (sym modules_are)
             (record { table = c.tables; compiles = is.compiles; items = is.items; enabled = is.enabled; policy = is.policy; right = is.right; first = is.first }),
         subst (λ z. Lists text_cmp (IsDefaultOn z) on) (sym modules_are) (defaults_listed m c.tables is.compiles w first),
-        refl,
-        same_state _ _ (sym modules_are) (ap (λ z. Some (record { modules = z; reasons = c.why.items; on = on })) (same ∙ sym modules_are)),
+        subst (λ z. IsTold z loaded) (sym modules_are) (record { table = c.tables; compiles = is.compiles; told = of.told }),
+        same_state _ _ (sym modules_are) (ap (λ z. Some (record { modules = z; reasons = c.why.items; on = on })) (of.same ∙ same ∙ sym modules_are)),
       )
 
--- where memory ran out, nothing has changed
-pub no_load : (h : State) (r : Result Loaded Failure) → IsErrAnd r (λ e. e ≡ NoMemory) → Loads h h r
-no_load h (Ok loaded) is = absurd is
-no_load h (Err failure) is = (subst (CompileFails h.modules) (sym is) tt, refl)
+-- where there is no policy of the modules, nothing has changed
+pub no_load : (h : State) (modules : List (List ℕ)) (failure : Failure) → modules ≡ h.modules → CompileFails modules failure → Loads h h (Err failure)
+no_load h modules failure same fails = (subst (λ z. CompileFails z failure) same fails, refl)
+
+-- where memory ran out, modules may compile
+pub no_memory : {X : Type 0} (modules : List (List ℕ)) (r : Result X Failure) → IsErrAnd r (λ e. e ≡ NoMemory) → IfErr r (CompileFails modules)
+no_memory modules (Ok x) is = tt
+no_memory modules (Err failure) is = subst (CompileFails modules) (sym is) tt

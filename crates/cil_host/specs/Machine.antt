@@ -1,6 +1,6 @@
 -- The model host: its modules, and those of its last accepted load with the reasons why optionals of theirs are left out and the
 -- booleans of theirs that are on. This project's profile.
-use Rattle.std.specs.Prelude.{◌≡◌, ℕ, ◌≤◌, List, [], Option, Some, None, Result, Ok, Err, OnErr}
+use Rattle.std.specs.Prelude.{◌≡◌, ℕ, List, [], Option, Some, None, Result, Ok, Err, OnErr}
 use Rattle.std.specs.Global.{Vec}
 use Rattle.cil_macros.specs.Item.{Item, OptSet}
 use Rattle.cil_optionals.specs.declared.reason.Reason.{Reason}
@@ -8,6 +8,8 @@ use Rattle.cil_optionals.specs.Certificate.{IsRight}
 use Rattle.cil_optionals.specs.First.{AreFirst}
 use Rattle.cil_optionals.specs.Policy.{ArePolicy}
 use Rattle.cil_decide.specs.declared.decision.Decision.{Decision}
+use Rattle.cil_avc.specs.declared.key.Key.{Key}
+use Rattle.cil_avc.specs.Cache.{IsTrueFor}
 use Rattle.cil_optionals.specs.declared.lines.OptionalLine.{OptionalLine}
 use Rattle.cil_optionals.specs.declared.lines.WhyLine.{WhyLine}
 use Rattle.cil_tables.specs.Agrees.{Compiles}
@@ -67,11 +69,15 @@ accepted_of settings p = record {
   on = on_names (is_on settings) (boolean_names p.compiled.tables.booleans);
 }
 
--- what is true of every host: it keeps what the loaded modules compile to, and its cache may hold from 1 to 65,536 decisions
-pub record IsSound (policy : Option Policy) (capacity : ℕ) : Type 0 where
+-- what is in the cache are decisions of the policy, where booleans have these settings; without a policy nothing is asked of it
+abbrev pub IsTrueCache : Option Policy → List ℕ → List (Key × Decision) → Type 0
+IsTrueCache None settings entries = Unit {0}
+IsTrueCache (Some p) settings entries = IsTrueFor p.compiled.tables (is_on settings) entries
+
+-- what is true of every host: it keeps what the loaded modules compile to, and its cache is true for this
+pub record IsSound (policy : Option Policy) (settings : List ℕ) (entries : List (Key × Decision)) : Type 0 where
   pub kept : IsKept policy
-  pub least : 1 ≤ capacity
-  pub most : capacity ≤ 65536
+  pub cache : IsTrueCache policy settings entries
 
 -- ---- queries
 

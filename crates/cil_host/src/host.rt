@@ -1,38 +1,41 @@
 //! A host: its modules, and the policy that is loaded from them.
 
-ghost use Rattle.std.specs.Prelude.{◌≡◌, ◌<◌, ℕ, List, [], map, None, IfOk, IfNone, IfSome, ◌≤◌};
+ghost use Rattle.std.specs.Prelude.{◌≡◌, ◌<◌, ℕ, List, [], map, None, IfErr, IfOk, IfNone, IfSome, ◌≤◌};
 ghost use Rattle.cil_modset.specs.Bundle.{bundle};
 ghost use Rattle.cil_modset.specs.Changes.{IsImported, IsInstalled};
 ghost use Rattle.cil_host.specs.Checks.{Checks};
 ghost use Rattle.cil_host.specs.Machine.{OfLoaded, Queries, State, TellsOptionals, TellsWhy};
 ghost use Rattle.cil_host.specs.Permissions.{AreNamesOf, IsInOrder, IsPermissionOf};
 ghost use Rattle.cil_host.specs.Listed.{line_of};
-ghost use Rattle.cil_host.specs.Refusal.{Loads};
+ghost use Rattle.cil_host.specs.Refusal.{IsPolicyOf, Loads};
+ghost use Rattle.cil_tables.specs.CompileRefusal.{CompileFails};
 ghost use Rattle.cil_host.specs.Sets.{Sets};
 
 use crate::fault::{HostError, QueryFault};
 use crate::lines::{copied_optionals, copied_reasons};
 use crate::listing::{ListLine, lines_of};
+use cil_avc::Avc;
 use cil_base::{Bytes, NoMemory};
 use cil_decide::{
-    Decision, Settings, boolean_named, class_named, decide, defaults, laws, parse_context,
-    permission_at, permission_named, permissions_of,
+    Decision, Settings, boolean_named, class_named, defaults, laws, parse_context, permission_at,
+    permission_named, permissions_of,
 };
 use cil_faults::Failure;
 use cil_modset::{BundleError, Installed, ModuleSet};
 use cil_optionals::{OptionalLine, WhyLine};
 use cil_sexpr::ReadError;
+use cil_table_bytes::measure;
 use cil_tables::{Compiled, compile};
 use std::alloc::Global;
+use std::hash::BuildHasher;
 use std::marker::Model;
 
-/// The result of a load: the length and the SHA-256 digest of the table's bytes. Tables have no byte format yet, so the
-/// length is 0 and the digest is 32 zeros.
+/// The result of a load: what the tables of the loaded policy are told by. Hosts with the same modules tell the same.
 #[derive(Clone, Copy, Debug, PartialEq, Eq)]
 pub struct Loaded {
-    /// The length of the table in bytes.
+    /// How many bytes the tables have.
     pub length: u64,
-    /// The digest of these bytes.
+    /// The SHA-256 digest of these bytes.
     pub digest: [u8; 32],
 }
 
@@ -43,19 +46,36 @@ struct Policy {
     modules: ModuleSet,
 }
 
+/// What modules compile to, with a copy of them, and what the tables are told by. It holds the tables only while it answers. Errors: the faults of the
+/// modules, or out of memory.
+fn policy_of(alloc: Global, modules: &ModuleSet) -> Result<(Policy, Loaded), Failure>
+    ensures ok { IfOk result (λ x. IsPolicyOf modules.now x.0 x.1) }
+    ensures err { IfErr result (CompileFails modules.now) }
+{
+    let compiled = compile(alloc, modules)?;
+    let told = measure(alloc, &compiled.tables)?;
+    let modules = modules.try_clone(alloc)?;
+    let loaded = Loaded {
+        length: told.length,
+        digest: told.digest,
+    };
+    Ok((Policy { compiled, modules }, loaded))
+}
+
 /// A host. In contracts it is its modules, and the modules of its last accepted load with the reasons why optionals of theirs are
-/// left out, and the names of the booleans of theirs that are on.
+/// left out, and the names of the booleans of theirs that are on. Its cache of decisions is not seen: whatever it holds, the answers are
+/// those of the loaded policy.
 #[derive(Debug, Drop)]
-pub struct Host<S: Drop> {
+pub struct Host<S: BuildHasher + Drop> {
     modules: ModuleSet,
     policy: Option<Policy>,
     // Which booleans of the policy are on.
     settings: Settings,
-    capacity: usize,
-    hasher: S,
+    // What was decided by the policy, with the booleans as they are.
+    cache: Avc<S>,
 }
 
-impl<S: Drop> Model for Host<S> {
+impl<S: BuildHasher + Drop> Model for Host<S> {
     ghost use Rattle.std.specs.Option.{option_map};
     ghost use Rattle.cil_host.specs.Machine.{IsSound, State, accepted_of};
 
@@ -63,24 +83,35 @@ impl<S: Drop> Model for Host<S> {
 
     ghost view = { λ a. record { modules = a.modules; loaded = option_map (accepted_of a.settings) a.policy } };
 
-    ghost invariant = { λ a. IsSound a.policy a.capacity };
+    ghost invariant = { λ a. IsSound a.policy a.settings a.cache.entries };
 }
 
-impl<S: Drop> Host<S> {
-    /// A host without modules and without a policy. `capacity`, from 1 to 65,536, is the size of the cache of decisions; the
-    /// cache itself is added later.
-    pub fn new(alloc: Global, capacity: usize, hasher: S) -> Host<S>
+impl<S: BuildHasher + Drop> Host<S> {
+    /// A host without modules and without a policy. `capacity`, from 1 to 65,536, is how many decisions its cache may hold; `hasher`
+    /// is that of the cache. Error: out of memory.
+    pub fn new(alloc: Global, capacity: usize, hasher: S) -> Result<Host<S>, NoMemory>
         requires least { 1 ≤ capacity }
         requires most { capacity ≤ 65536 }
-        ensures { result ≡ record { modules = []; loaded = None } }
+        ensures { IfOk result (λ host. host ≡ record { modules = []; loaded = None }) }
     {
-        Host {
+        let cache = Avc::new(alloc, capacity, hasher)?;
+        Ok(Host {
             modules: ModuleSet::new(alloc),
             policy: None,
             settings: Settings::all_off(),
-            capacity,
-            hasher,
-        }
+            cache,
+        })
+    }
+
+    /// Makes the host as it was at first: without modules, without a policy, and with an empty cache. It takes no memory; `alloc` is where modules that are
+    /// installed afterwards are kept.
+    pub fn restart(&mut self, alloc: Global)
+        ensures { self.new ≡ record { modules = []; loaded = None } }
+    {
+        self.modules = ModuleSet::new(alloc);
+        self.policy = None;
+        self.settings = Settings::all_off();
+        self.cache.flush();
     }
 
     /// Installs a module, as `ModuleSet::install` does, and returns whether it was new. The loaded policy does not change.
@@ -118,22 +149,19 @@ impl<S: Drop> Host<S> {
         lines_of(alloc, &self.modules)
     }
 
-    /// Compiles the modules and loads their policy, by which queries are answered from then on. Each boolean has its default then. (CIL
-    /// Reference Guide, "boolean".)
+    /// Compiles the modules and loads their policy, by which queries are answered from then on. Each boolean has its default then, and the cache is empty.
+    /// The answer is the length and the digest of the bytes of the policy's tables. (CIL Reference Guide, "boolean".)
     ///
     /// Errors: the faults of the modules (all faults of the first step that has any), or out of memory. If the call fails,
     /// the host is unchanged.
     pub fn load(&mut self, alloc: Global) -> Result<Loaded, Failure>
         ensures { Loads self.old self.new result }
     {
-        let compiled = compile(alloc, &self.modules)?;
-        let modules = self.modules.try_clone(alloc)?;
-        self.settings = defaults(&compiled.tables);
-        self.policy = Some(Policy { compiled, modules });
-        Ok(Loaded {
-            length: 0,
-            digest: [0; 32],
-        })
+        let (policy, loaded) = policy_of(alloc, &self.modules)?;
+        self.settings = defaults(&policy.compiled.tables);
+        self.cache.flush();
+        self.policy = Some(policy);
+        Ok(loaded)
     }
 
     /// A line for each optional of the loaded policy, with whether it is in force: by module, place, namespace and label.
@@ -164,7 +192,7 @@ impl<S: Drop> Host<S> {
     }
 
     /// Turns the boolean of a qualified name on or off, until it is set again or modules are loaded. (The SELinux Notebook,
-    /// "Booleans".) The call allocates no memory.
+    /// "Booleans".) It empties the cache. The call allocates no memory.
     ///
     /// Errors, the first that applies: no policy is loaded, there is no boolean of this name. If the call fails, the host is unchanged.
     pub fn set_boolean(&mut self, name: &[u8], value: bool) -> Result<(), QueryFault>
@@ -178,11 +206,13 @@ impl<S: Drop> Host<S> {
             return Err(QueryFault::NoBoolean);
         };
         self.settings.set(number, value);
+        self.cache.flush();
         Ok(())
     }
 
     /// What a source may do to a target of a class, by the loaded policy and the settings of its booleans. A context is
-    /// `user:role:type`, a class is given by its name. The call allocates no memory.
+    /// `user:role:type`, or `user:role:type:level` where contexts have levels, a class is given by its name. The decision is kept in the cache, or taken
+    /// from there; where memory is lacking it is not kept, and it is answered all the same.
     ///
     /// Errors, the first that applies: no policy is loaded, the source is not a valid context, the target is not a valid
     /// context, there is no class of this name. The host is unchanged.
@@ -208,8 +238,8 @@ impl<S: Drop> Host<S> {
         let Some(class) = class_named(&policy.compiled.tables, class) else {
             return Err(QueryFault::NoClass);
         };
-        let settings = &self.settings;
-        Ok(decide(&policy.compiled.tables, settings, &from, &onto, class))
+        let tables = &policy.compiled.tables;
+        Ok(self.cache.lookup(tables, &self.settings, &from, &onto, class))
     }
 
     /// The name of a permission of a class of the loaded policy, by its bit in the masks of decisions: its position among the

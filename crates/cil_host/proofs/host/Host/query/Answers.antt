@@ -32,6 +32,6 @@ pub returns-clause-answer : goal.returns-clause-answer
 returns-clause-answer g c =
     let compiles = (kept _ _ c.in-Some.is c.self.invariant.kept).compiles in
     let answer = c.compiled_tables_answer.ensures _ _ compiles in
-    accepted_fact _ _ _ _ _ (sym c.self.view_is) c.in-Some.is (λ a. ModulesDecide a.modules (on_in a.on) c.args.source.now c.args.target.now c.args.class.now c.decide.result)
+    accepted_fact _ _ _ _ _ (sym c.self.view_is) c.in-Some.is (λ a. ModulesDecide a.modules (on_in a.on) c.args.source.now c.args.target.now c.args.class.now c.lookup.result)
     (answer.decision _ _ (same_settings _ _ compiles c.self.inside.settings) c.args.source.now c.args.target.now c.args.class.now _ _ _ _ c.in-Some-parse_context.ensures.found c.in-Some-parse_context-2.ensures.found
-    c.in-Some-class_named.ensures.found c.decide.ensures)
+    c.in-Some-class_named.ensures.found c.lookup.ensures.answer)
