@@ -8,7 +8,7 @@ use Rattle.cil_constraint_bytes.proofs.put.put_constraints.Goals as goal
 pub loop-constraint-preserved : goal.loop-constraint-preserved
 loop-constraint-preserved g c = λ limits before h.
     one_more g.O.Out.holds (constraint limits).spell c.args.constraints.now c.loop-constraint.constraint-index c.loop-constraint.out
-    (before ++ to_be_bytes w32 (length c.args.constraints.now)) (c.loop-constraint.invariant limits before h) c.give_constraint.new.out c.constraint-item.result.now c.constraint-item.at
+    (before ++ to_be_bytes w32 (length c.args.constraints.now)) (c.loop-constraint.invariant limits before h) c.give_constraint.new.out c.constraint-item.result c.constraint-item.at
     (c.in_ok-give_constraint.ensures limits)
 
 pub returns : goal.returns
