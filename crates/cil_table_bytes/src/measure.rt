@@ -23,12 +23,12 @@ pub struct Measured {
 
 /// Where bytes go that are only measured: it keeps none of them.
 #[derive(Drop)]
-struct Measure {
+struct Running {
     hasher: Sha256,
     length: u64,
 }
 
-impl Out for Measure {
+impl Out for Running {
     ghost holds = { λ out bytes. Holds256 out.hasher bytes × (out.length ≡ length bytes) };
 
     fn put(&mut self, bytes: &[u8]) -> Result<(), NoMemory> {
@@ -41,12 +41,12 @@ impl Out for Measure {
     }
 }
 
-impl Measure {
+impl Running {
     /// No bytes.
-    fn new() -> Measure
+    fn new() -> Running
         ensures { Holds256 result.hasher [] × (result.length ≡ 0) }
     {
-        Measure {
+        Running {
             hasher: Sha256::new(),
             length: 0,
         }
@@ -68,7 +68,7 @@ impl Measure {
 pub fn measure(alloc: Global, tables: &Tables) -> Result<Measured, NoMemory>
     ensures { IfOk result (λ told. told ≡ measured (layout tables.now)) }
 {
-    let mut out = Measure::new();
+    let mut out = Running::new();
     put_tables(alloc, &mut out, tables)?;
     Ok(out.finish())
 }
