@@ -1,6 +1,6 @@
 //! Tables as bytes, in layout 1: what hosts compare, keep and exchange.
 //!
-//! Start at `decode` in `reading.rt`, `encode` in `writing.rt` and `measure` in `measure.rt`, which takes the length and the digest of the bytes
+//! Start at `decode` in `reading.rt`, `encode` in `writing.rt` and `measure` in `measuring.rt`, which takes the length and the digest of the bytes
 //! while they are laid out. `specs/Layout.antt` is the layout of the whole, a header and 17
 //! sections; `specs/Names.antt` has the sections of names (6 to 10), and the crates below those of levels, rules and constraints.
 //! `laws.rt` says that tables with equal bytes are equal, and that each cut text is short. `proofs/Rows.antt` has worked tables with
@@ -10,7 +10,7 @@
 mod classes;
 pub mod laws;
 mod links;
-mod measure;
+mod measuring;
 mod names;
 mod put;
 mod put_links;
@@ -20,6 +20,6 @@ mod tests;
 mod writing;
 
 pub use cil_format::{TableError, TableFault};
-pub use measure::{Measured, measure};
+pub use measuring::{Measured, measure};
 pub use reading::decode;
 pub use writing::encode;
