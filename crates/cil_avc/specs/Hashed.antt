@@ -4,7 +4,7 @@ use Rattle.std.specs.Hash as fed
 use Rattle.cil_mls.specs.declared.level.Level.{Level}
 use Rattle.cil_constraints.specs.declared.expr.Context.{Context}
 
--- a number with one word more mixed in; the factor is 2 ^ 64 by the golden ratio
+-- a number with one word more mixed in; the factor is 2 ^ 64 divided by the golden ratio, rounded down
 abbrev pub mixed_more : ℕ → ℕ → ℕ
 mixed_more number word = bit_xor number word * 11400714819323198485 % 2 ^ 64
 

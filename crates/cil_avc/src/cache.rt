@@ -35,7 +35,7 @@ impl<S: BuildHasher + Drop> Model for Avc<S> {
 }
 
 impl<S: BuildHasher + Drop> Avc<S> {
-    /// An empty cache for at most `capacity` decisions, from 1 to 65,536. An entry takes some 600 bytes. Error: out of memory.
+    /// An empty cache for at most `capacity` decisions, from 1 to 65,536. An entry takes some 650 bytes. Error: out of memory.
     pub fn new(alloc: Global, capacity: usize, hasher: S) -> Result<Avc<S>, NoMemory>
         requires least { 1 ≤ capacity }
         requires most { capacity ≤ 65536 }
@@ -46,9 +46,9 @@ impl<S: BuildHasher + Drop> Avc<S> {
     }
 
     /// The decision on a source, a target and a class, as `decide` gives it for these tables and settings. The cache has to be
-    /// true for both: empty, or used only with these since it was. It is true afterwards too. (The SELinux Notebook, "Computing
-    /// Access Decisions".) A decision that is in the cache costs two searches there; another one is made by `decide`, and
-    /// costs two searches more. Out of memory, the answer is the same, and the cache stays as it was.
+    /// true for both: empty, or used with no others since it was empty. It is true afterwards too. (The SELinux Notebook,
+    /// "Computing Access Decisions".) If the decision is in the cache, this costs two searches there; if not, what `decide` costs
+    /// and a few searches. Out of memory, the answer is the same, and the cache stays as it was.
     pub fn lookup(
         &mut self,
         tables: &Tables,
