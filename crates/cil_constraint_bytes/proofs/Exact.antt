@@ -1,17 +1,17 @@
 -- The laws of the layout of constraints.
 use Rattle.std.proofs.Common.{◌≡◌, ℕ, zero, suc, ◌^◌, ◌≤◌, List, length, Ok, refl, sym, ap, ◌∙◌, arith}
 use Rattle.std.specs.Prelude.{◌==◌}
-use Rattle.std.specs.Int.{w8, w32}
+use Rattle.std.specs.Int.{w8}
 use Rattle.cil_format.specs.declared.fault.TableFault.TheVariants.{NotCanonical, OutOfRange}
-use Rattle.cil_format.specs.Fields.{below, byte_below, set, small}
+use Rattle.cil_format.specs.Fields.{below, byte_below, mask, set, small}
 use Rattle.cil_format.specs.Format.{Format, as_type, both, checked, choose, number, refused}
-use Rattle.cil_format.proofs.Bytes.{IsBytes, wide8, wide32}
+use Rattle.cil_format.proofs.Bytes.{IsBytes, wide8}
 use Rattle.cil_format.proofs.FormatLaws.{IsExact, as_exact, both_exact, checked_exact, keyed_exact, number_exact, refused_exact}
-use Rattle.cil_format.proofs.FieldLaws.{byte_exact, choose_exact, chosen_tells, section_exact, set_exact, small_exact}
+use Rattle.cil_format.proofs.FieldLaws.{byte_exact, choose_exact, chosen_tells, mask_exact, section_exact, set_exact, small_exact}
 use Rattle.cil_constraints.specs.declared.step.Step.{Step}
 use Rattle.cil_constraints.specs.Expressions.{Expression, Negated, Both, Either, Compared, Ranked, Inside, IsExpression, levels_of, steps_of}
 use Rattle.cil_constraints.proofs.OneTree.{one_tree}
-use Rattle.cil_constraint_bytes.specs.Layout.{Limits, any_constraint, constraint, constraint_fields, constraint_of, constraints, expression, fields_of, first_tree, mask_of, member, member_fields, member_of, member_parts, members}
+use Rattle.cil_constraint_bytes.specs.Layout.{Limits, any_constraint, constraint, constraint_fields, constraint_of, constraints, expression, fields_of, first_tree, member, member_fields, member_of, member_parts, members}
 use Rattle.cil_constraint_bytes.specs.Layout.{node, only_part, operations, pair, pair_fields, pair_of, pair_parts, pairs_with, tag_of, tree, tree_in, two_parts, variables}
 use Rattle.cil_constraint_bytes.proofs.FieldBack.{equality_back, pair_back, pair_tag, variable_back}
 
@@ -102,15 +102,12 @@ expression_exact limits = as_exact steps_of tree_in (tree limits 128) (λ e fits
 
 -- ---- constraints
 
-mask_exact : (limits : Limits) (class : ℕ) → IsExact (mask_of limits class)
-mask_exact limits class = checked_exact (λ m. _) OutOfRange (number w32 (2 ^ 32)) (number_exact w32 (2 ^ 32) wide32)
-
 pub constraint_exact : (limits : Limits) → IsExact (constraint limits)
 constraint_exact limits =
     checked_exact (λ c. _) NotCanonical (any_constraint limits)
     (as_exact constraint_of fields_of (constraint_fields limits) (λ p fits. refl)
-    (both_exact (small (length limits.widths)) (λ class. both (mask_of limits class) (λ mask. expression limits)) (small_exact (length limits.widths))
-    (λ class fits. both_exact (mask_of limits class) (λ mask. expression limits) (mask_exact limits class) (λ mask fit. expression_exact limits))))
+    (both_exact (small (length limits.widths)) (λ class. both (mask limits.widths class) (λ m. expression limits)) (small_exact (length limits.widths))
+    (λ class fits. both_exact (mask limits.widths class) (λ m. expression limits) (mask_exact limits.widths class) (λ m fit. expression_exact limits))))
 
 pub constraints_exact : (limits : Limits) → IsExact (constraints limits)
 constraints_exact limits = section_exact below (λ n. _) (constraint limits) (constraint_exact limits)

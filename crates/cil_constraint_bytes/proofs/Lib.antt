@@ -2,7 +2,6 @@ pub mod Exact
 mod FieldBack
 pub mod FitLemmas
 mod Lists
-mod Masks
 pub mod OrderLemmas
 mod RecordLemmas
 mod Rows

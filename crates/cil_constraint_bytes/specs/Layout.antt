@@ -1,8 +1,8 @@
 -- How the constraints of tables are laid out: section 17. This project's profile.
-use Rattle.std.specs.Prelude.{ℕ, zero, suc, ◌^◌, Bool, List, [], ◌∷◌, length, get_or, nat_lt, nat_le, ◌==◌, ◌&&◌, ◌||◌, if◌then◌else◌}
-use Rattle.std.specs.Int.{w8, w32}
+use Rattle.std.specs.Prelude.{ℕ, zero, suc, ◌^◌, Bool, List, [], ◌∷◌, length, nat_lt, nat_le, ◌==◌, ◌&&◌, ◌||◌, if◌then◌else◌}
+use Rattle.std.specs.Int.{w8}
 use Rattle.cil_format.specs.declared.fault.TableFault.TheVariants.{NotCanonical, OutOfRange}
-use Rattle.cil_format.specs.Fields.{below, byte_below, set, small}
+use Rattle.cil_format.specs.Fields.{below, byte_below, mask, set, small}
 use Rattle.cil_format.specs.Format.{Format, as_type, both, checked, choose, keyed, number, refused, section}
 use Rattle.cil_constraints.specs.declared.mask.Constraint.{Constraint}
 use Rattle.cil_constraints.specs.declared.step.Part.{Part}
@@ -161,10 +161,6 @@ expression limits = as_type steps_of tree_in (tree limits 128)
 
 -- ---- constraints
 
--- a mask has no bit past the permissions of the class
-abbrev pub mask_of : Limits → ℕ → Format ℕ
-mask_of limits class = checked (λ m. nat_lt m (2 ^ get_or limits.widths class 0)) OutOfRange (number w32 (2 ^ 32))
-
 abbrev pub fields_of : Constraint → ℕ × (ℕ × List Step)
 fields_of c = (c.class, (c.mask, c.expr))
 
@@ -173,7 +169,7 @@ constraint_of p = record { class = p.0; mask = p.1.0; expr = p.1.1 }
 
 -- class, mask, expression
 abbrev pub constraint_fields : Limits → Format (ℕ × (ℕ × List Step))
-constraint_fields limits = both (small (length limits.widths)) (λ class. both (mask_of limits class) (λ mask. expression limits))
+constraint_fields limits = both (small (length limits.widths)) (λ class. both (mask limits.widths class) (λ m. expression limits))
 
 -- a constraint, on some permission or none
 abbrev pub any_constraint : Limits → Format Constraint

@@ -1,6 +1,6 @@
 //! What the sections before the constraints say of the numbers in them.
 
-ghost use Rattle.std.specs.Prelude.{◌≡◌, ◌^◌, get_or, nat_lt};
+ghost use Rattle.std.specs.Prelude.{◌≡◌};
 ghost use Rattle.cil_constraint_bytes.specs.Bounds.{limits_of};
 ghost use Rattle.cil_constraint_bytes.specs.Layout as layout;
 
@@ -17,26 +17,6 @@ pub struct Bounds<'a> {
     pub types: usize,
     /// Whether the policy has levels.
     pub are_on: bool,
-}
-
-/// How many permissions a class has.
-pub(crate) fn width_of(widths: &[usize], class: u16) -> usize
-    ensures { result ≡ get_or widths.now class 0 }
-{
-    match widths.get(class as usize) {
-        Some(width) => *width,
-        None => 0,
-    }
-}
-
-/// Whether a mask has no bit past so many.
-pub(crate) fn is_within(mask: u32, width: usize) -> bool
-    ensures { result ≡ nat_lt mask (2 ^ width) }
-{
-    if width < 32 {
-        return (mask as u64) < (1u64 << width);
-    }
-    true
 }
 
 /// The first byte that is no variable.

@@ -4,24 +4,13 @@ ghost use Rattle.std.specs.Prelude.{◌≡◌, ◌^◌, nat_le};
 ghost use Rattle.cil_format.specs.Fields.{below};
 ghost use Rattle.cil_format.specs.Takes.{Takes};
 ghost use Rattle.cil_constraint_bytes.specs.Bounds.{limits_of};
-ghost use Rattle.cil_constraint_bytes.specs.Layout.{any_constraint, constraint, constraints, mask_of};
+ghost use Rattle.cil_constraint_bytes.specs.Layout.{any_constraint, constraint, constraints};
 
-use crate::bounds::{Bounds, is_within, width_of};
+use crate::bounds::Bounds;
 use crate::steps::expression_at;
 use cil_constraints::Constraint;
-use cil_format::{Section, TableError, TableFault, is_below, section_at, small_at, u32_at};
+use cil_format::{Section, TableError, TableFault, is_below, mask_at, section_at, small_at};
 use std::alloc::Global;
-
-/// A mask of permissions of a class.
-fn mask_at<'a>(bounds: &Bounds, bytes: &'a [u8], class: u16) -> Result<(u32, &'a [u8]), TableError>
-    ensures { Takes (λ x. (x.0, x.1.now)) result ((mask_of (limits_of bounds.now) class).read bytes.now) }
-{
-    let (mask, rest) = u32_at(bytes)?;
-    if is_within(mask, width_of(bounds.widths, class)) {
-        return Ok((mask, rest));
-    }
-    Err(TableError::Fault(TableFault::OutOfRange))
-}
 
 /// A constraint, whatever its mask.
 fn any_constraint_at<'a>(
@@ -32,9 +21,9 @@ fn any_constraint_at<'a>(
     ensures { Takes (λ x. (x.0, x.1.now)) result ((any_constraint (limits_of bounds.now)).read bytes.now) }
 {
     let (class, rest) = small_at(bytes, bounds.widths.len())?;
-    let (mask, rest) = mask_at(bounds, rest, class)?;
-    let (expr, rest) = expression_at(alloc, bounds, rest)?;
     let class = class as usize;
+    let (mask, rest) = mask_at(rest, bounds.widths, class)?;
+    let (expr, rest) = expression_at(alloc, bounds, rest)?;
     Ok((Constraint { class, mask, expr }, rest))
 }
 

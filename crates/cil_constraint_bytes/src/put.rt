@@ -43,11 +43,7 @@ fn give_constraint<O: Out>(
 }
 
 /// A constraint: its class, its mask and its steps. It costs a step for each byte. Errors: out of memory.
-fn put_constraint(
-    alloc: Global,
-    out: &mut Vec<u8>,
-    constraint: &Constraint,
-) -> Result<(), NoMemory>
+fn put_constraint(alloc: Global, out: &mut Vec<u8>, constraint: &Constraint) -> Result<(), NoMemory>
     ensures { (limits : Limits) → OnOk result (out.new.items ≡ out.old.items ++ (layout limits).spell constraint.now) }
 {
     put_small(out, constraint.class)?;

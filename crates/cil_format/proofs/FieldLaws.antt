@@ -6,7 +6,7 @@ use Rattle.std.proofs.lemmas.Bool.{eqb-true}
 use Rattle.cil_format.specs.declared.fault.TableFault.{TableFault}
 use Rattle.cil_format.specs.declared.fault.TableFault.TheVariants.{NotCanonical, OutOfRange}
 use Rattle.cil_format.specs.Format.{Format, choose, checked, number, run, many, rising_after, each_by, sized, section, listing}
-use Rattle.cil_format.specs.Fields.{byte_below, this_byte, small, rises, set, text}
+use Rattle.cil_format.specs.Fields.{byte_below, mask, this_byte, small, rises, set, text}
 use Rattle.cil_format.proofs.Bytes.{IsWide, wide8, wide16, wide32}
 use Rattle.cil_format.proofs.FormatLaws.{IsExact, keyed_exact, checked_exact, number_exact, run_exact, many_exact, rising_exact, each_exact}
 
@@ -41,6 +41,9 @@ this_exact fault b = checked_exact (λ n. _) fault (number w8 (2 ^ 8)) (number_e
 
 pub small_exact : (limit : ℕ) → IsExact (small limit)
 small_exact limit = checked_exact (λ n. _) OutOfRange (number w16 (2 ^ 16)) (number_exact w16 (2 ^ 16) wide16)
+
+pub mask_exact : (widths : List ℕ) (class : ℕ) → IsExact (mask widths class)
+mask_exact widths class = checked_exact (λ m. _) OutOfRange (number w32 (2 ^ 32)) (number_exact w32 (2 ^ 32) wide32)
 
 pub set_exact : (limit : ℕ) → IsExact (set limit)
 set_exact limit =

@@ -7,3 +7,4 @@ pub mod Orders
 pub mod OutLemmas
 pub mod Rises
 pub mod SortedRecords
+mod WideMasks

@@ -1,5 +1,5 @@
--- The fields of records: numbers, sets of numbers, texts, and lists of texts. This project's profile.
-use Rattle.std.specs.Prelude.{ℕ, ◌^◌, Bool, true, List, [], ◌∷◌, take, drop, nat_le, nat_lt, ◌==◌, ◌&&◌}
+-- The fields of records: numbers, masks of permissions, sets of numbers, texts, and lists of texts. This project's profile.
+use Rattle.std.specs.Prelude.{ℕ, ◌^◌, Bool, true, List, [], ◌∷◌, take, drop, get_or, nat_le, nat_lt, ◌==◌, ◌&&◌}
 use Rattle.std.specs.Int.{w8, w16, w32, from_be_bytes}
 use Rattle.std.specs.Cmp.Lexicographic.{slice_cmp}
 use Rattle.std.specs.Ordering.{nat_cmp, is_lt}
@@ -20,6 +20,12 @@ this_byte fault b = checked (λ n. n == b) fault (number w8 (2 ^ 8))
 -- a number of two bytes below a limit
 abbrev pub small : ℕ → Format ℕ
 small limit = checked (λ n. nat_lt n limit) OutOfRange (number w16 (2 ^ 16))
+
+-- ---- permissions of a class
+
+-- permissions of a class, where each class has so many: no bit past them
+abbrev pub mask : List ℕ → ℕ → Format ℕ
+mask widths class = checked (λ m. nat_lt m (2 ^ get_or widths class 0)) OutOfRange (number w32 (2 ^ 32))
 
 -- ---- sets of numbers
 

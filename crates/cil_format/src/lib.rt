@@ -10,6 +10,7 @@
 
 mod fault;
 mod fields;
+mod masks;
 mod numbers;
 mod out;
 mod put;
@@ -18,6 +19,7 @@ mod sets;
 
 pub use fault::{TableError, TableFault};
 pub use fields::{byte_below, run_at, small_at, text_at, this_byte, u8_at, u16_at, u32_at};
+pub use masks::mask_at;
 pub use numbers::set_at;
 pub use out::{Out, give_count};
 pub use put::{put_byte, put_count, put_set, put_small, put_text};

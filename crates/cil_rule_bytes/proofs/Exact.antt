@@ -1,17 +1,17 @@
 -- Rules: what is read is laid out so, what is laid out so is read, and no fault but the end is mended by more bytes.
-use Rattle.std.proofs.Common.{◌≡◌, ℕ, zero, suc, ◌^◌, Bool, true, false, List, get_or, length, Option, None, Some, refl, sym, ap}
+use Rattle.std.proofs.Common.{◌≡◌, ℕ, zero, suc, ◌^◌, Bool, true, false, List, length, Option, None, Some, refl, sym, ap}
 use Rattle.std.specs.Prelude.{◌==◌}
-use Rattle.std.specs.Int.{w8, w32}
+use Rattle.std.specs.Int.{w8}
 use Rattle.cil_conditions.specs.declared.branch.Branch.{Branch}
 use Rattle.cil_format.specs.declared.fault.TableFault.TheVariants.{NotCanonical, OutOfRange}
-use Rattle.cil_format.specs.Fields.{below, set, small}
+use Rattle.cil_format.specs.Fields.{below, mask, set, small}
 use Rattle.cil_format.specs.Format.{Format, as_type, both, choose, number, only, refused}
-use Rattle.cil_format.proofs.Bytes.{wide8, wide32}
-use Rattle.cil_format.proofs.FieldLaws.{choose_exact, chosen_tells, section_exact, set_exact, small_exact}
+use Rattle.cil_format.proofs.Bytes.{wide8}
+use Rattle.cil_format.proofs.FieldLaws.{choose_exact, chosen_tells, mask_exact, section_exact, set_exact, small_exact}
 use Rattle.cil_format.proofs.FormatLaws.{IsExact, as_exact, both_exact, checked_exact, keyed_exact, number_exact, only_exact, refused_exact, spelled_exact}
 use Rattle.cil_rules.specs.Rule.{Target, Types, Itself}
 use Rattle.cil_rule_bytes.specs.Conditions.{Condition, boolean, opposite, joined, Junction, conjoined, disjoined, parted, matched, unmatched, tokens_of, tree_in}
-use Rattle.cil_rule_bytes.specs.Layout.{Limits, condition_tag, boolean_of, only_part, two_parts, joined_parts, node, tokens_bytes, tree, tree_tokens, condition, condition_of, branch_rank, in_branch, branch_by, branch, types_of, target_tag, target_by, target, mask, on_class, parts, rule_of, parts_of, says_some, any_rule, rule, rules, sections_of, three_of, rule_sections}
+use Rattle.cil_rule_bytes.specs.Layout.{Limits, condition_tag, boolean_of, only_part, two_parts, joined_parts, node, tokens_bytes, tree, tree_tokens, condition, condition_of, branch_rank, in_branch, branch_by, branch, types_of, target_tag, target_by, target, on_class, parts, rule_of, parts_of, says_some, any_rule, rule, rules, sections_of, three_of, rule_sections}
 use Rattle.cil_rule_bytes.proofs.SpellLemmas.{tokens_spelled}
 use Rattle.cil_rule_bytes.proofs.Trees.{one_tree}
 
@@ -125,11 +125,8 @@ target_exact types = keyed_exact target_tag (number w8 (2 ^ 8)) (target_by types
 
 -- ---- rules
 
-pub mask_exact : (width : ℕ) → IsExact (mask width)
-mask_exact width = checked_exact (λ m. _) OutOfRange (number w32 (2 ^ 32)) (number_exact w32 (2 ^ 32) wide32)
-
 pub on_class_exact : (widths : List ℕ) → IsExact (on_class widths)
-on_class_exact widths = both_exact (small (length widths)) (λ c. mask (get_or widths c 0)) (small_exact (length widths)) (λ c fits. mask_exact (get_or widths c 0))
+on_class_exact widths = both_exact (small (length widths)) (mask widths) (small_exact (length widths)) (λ c fits. mask_exact widths c)
 
 pub parts_exact : (limits : Limits) → IsExact (parts limits)
 parts_exact limits =

@@ -1,5 +1,4 @@
 pub mod Exact
-pub mod Masks
 pub mod NamedLemmas
 pub mod PushLemmas
 pub mod Rows

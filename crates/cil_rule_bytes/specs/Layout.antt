@@ -1,5 +1,5 @@
 -- How rules are laid out: sections 14, 15 and 16 of tables. This project's profile.
-use Rattle.std.specs.Prelude.{ℕ, zero, suc, ◌^◌, Bool, true, false, List, [], ◌∷◌, length, get_or, Option, Some, None, nat_le, nat_lt, ◌==◌, ◌&&◌}
+use Rattle.std.specs.Prelude.{ℕ, zero, suc, ◌^◌, Bool, true, false, List, [], ◌∷◌, length, Option, Some, None, nat_le, nat_lt, ◌==◌, ◌&&◌}
 use Rattle.std.specs.Int.{w8, w16, w32, to_be_bytes}
 use Rattle.std.specs.List.{flat_map}
 use Rattle.cil_conditions.specs.declared.branch.Branch.{Branch}
@@ -7,7 +7,7 @@ use Rattle.cil_conditions.specs.declared.token.Token.{Token}
 use Rattle.cil_conditions.specs.declared.token.Token.TheVariants as tokens
 use Rattle.cil_conditions.specs.Order.{branch_tag, tag_of}
 use Rattle.cil_format.specs.declared.fault.TableFault.TheVariants.{NotCanonical, OutOfRange}
-use Rattle.cil_format.specs.Fields.{below, set, small}
+use Rattle.cil_format.specs.Fields.{below, mask, set, small}
 use Rattle.cil_format.specs.Format.{Format, as_type, both, checked, choose, keyed, number, only, refused, section, spelled_by}
 use Rattle.cil_index.specs.Sections.{RuleSections}
 use Rattle.cil_rules.specs.Rule.{Rule, Target, Types, Itself}
@@ -118,13 +118,9 @@ target types = keyed target_tag (number w8 (2 ^ 8)) (target_by types)
 
 -- ---- rules
 
--- no bit past the permissions of the class
-abbrev pub mask : ℕ → Format ℕ
-mask width = checked (λ m. nat_lt m (2 ^ width)) OutOfRange (number w32 (2 ^ 32))
-
 -- a class, and permissions of it
 abbrev pub on_class : List ℕ → Format (ℕ × ℕ)
-on_class widths = both (small (length widths)) (λ c. mask (get_or widths c 0))
+on_class widths = both (small (length widths)) (mask widths)
 
 abbrev pub Parts : Type 0
 Parts = Option Branch × (List ℕ × (Target × (ℕ × ℕ)))

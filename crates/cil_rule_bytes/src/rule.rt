@@ -1,15 +1,15 @@
 //! Rules at the front of bytes.
 
-ghost use Rattle.std.specs.Prelude.{◌≡◌, ◌<◌, ◌^◌, get_or, length, nat_lt};
+ghost use Rattle.std.specs.Prelude.{◌≡◌};
 ghost use Rattle.cil_format.specs.Takes.{Takes};
 ghost use Rattle.cil_rule_bytes.specs.Bounds.{limits_of};
-ghost use Rattle.cil_rule_bytes.specs.Layout.{any_rule, mask, on_class, reaches_some, rule, rules, says_some, target};
+ghost use Rattle.cil_rule_bytes.specs.Layout.{any_rule, on_class, reaches_some, rule, rules, says_some, target};
 ghost use Rattle.cil_rule_bytes.specs.Records.{target_of};
 
 use crate::bounds::Bounds;
 use crate::conditions::branch_at;
 use cil_conditions::Branch;
-use cil_format::{TableError, TableFault, set_at, small_at, u8_at, u32_at};
+use cil_format::{TableError, TableFault, mask_at, set_at, small_at, u8_at};
 use cil_sets::Numbers;
 use std::alloc::Global;
 use std::marker::Model;
@@ -57,43 +57,12 @@ fn target_at(alloc: Global, bytes: &[u8], types: usize) -> Result<(ReadTarget, &
     }
 }
 
-/// Whether a mask has no bit past so many permissions.
-fn is_within(mask: u32, width: usize) -> bool
-    ensures { result ≡ nat_lt mask (2 ^ width) }
-{
-    if width < 32 {
-        return (mask as u64) < (1u64 << width);
-    }
-    true
-}
-
-/// Permissions of a class that has so many.
-fn mask_at(bytes: &[u8], width: usize) -> Result<(u32, &[u8]), TableError>
-    ensures { Takes (λ x. (x.0, x.1.now)) result ((mask width).read bytes.now) }
-{
-    let (mask, rest) = u32_at(bytes)?;
-    if is_within(mask, width) {
-        return Ok((mask, rest));
-    }
-    Err(TableError::Fault(TableFault::OutOfRange))
-}
-
-/// How many permissions a class has.
-fn width_of(widths: &[usize], class: usize) -> usize
-    ensures { result ≡ get_or widths.now class 0 }
-{
-    match widths.get(class) {
-        Some(width) => *width,
-        None => 0,
-    }
-}
-
 /// A class, and permissions of it.
 fn on_class_at<'a>(bytes: &'a [u8], widths: &[usize]) -> Result<((u16, u32), &'a [u8]), TableError>
     ensures { Takes (λ x. ((x.0.0, x.0.1), x.1.now)) result ((on_class widths.now).read bytes.now) }
 {
     let (class, rest) = small_at(bytes, widths.len())?;
-    let (mask, rest) = mask_at(rest, width_of(widths, class as usize))?;
+    let (mask, rest) = mask_at(rest, widths, class as usize)?;
     Ok(((class, mask), rest))
 }
 

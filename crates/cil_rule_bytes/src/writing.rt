@@ -121,11 +121,7 @@ pub fn put_rules<O: Out>(alloc: Global, out: &mut O, rules: &ListedRules) -> Res
 
 /// The rules of sections 14, 15 and 16, one section behind the other. It costs a step for each byte, and room for the bytes of one rule. Errors: out
 /// of memory.
-pub fn put_sections<O: Out>(
-    alloc: Global,
-    out: &mut O,
-    sections: &Sections,
-) -> Result<(), NoMemory>
+pub fn put_sections<O: Out>(alloc: Global, out: &mut O, sections: &Sections) -> Result<(), NoMemory>
     ensures { (limits : Limits) (before : List ℕ) → O.holds out.old before → OnOk result (O.holds out.new (before ++ (rule_sections limits).spell sections.now)) }
 {
     let allow = sections.allow();
