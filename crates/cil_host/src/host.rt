@@ -239,10 +239,8 @@ impl<S: BuildHasher + Drop> Host<S> {
             return Err(QueryFault::NoClass);
         };
         let tables = &policy.compiled.tables;
-        Ok(
-            self.cache
-                .lookup(tables, &self.settings, &from, &onto, class),
-        )
+        let settings = &self.settings;
+        Ok(self.cache.lookup(tables, settings, &from, &onto, class))
     }
 
     /// The name of a permission of a class of the loaded policy, by its bit in the masks of decisions: its position among the
