@@ -84,7 +84,7 @@ class Host:
         except BadBundle as refusal:
             return refusal.args[0]
         count = len(self.modules)
-        self.modules = trees | self.modules
+        self.modules = {**trees, **self.modules}
         return b"OK %d" % (len(self.modules) - count)
 
     def export(self):

@@ -89,7 +89,7 @@ def tables_of(host):
         reply = host.load()
         if not reply.startswith(b"OK "):
             raise ValueError(f"the model refuses the modules of a LOAD: {shown(reply)}")
-        OF_MODULES[modules] = reply.removeprefix(b"OK ")
+        OF_MODULES[modules] = reply[len(b"OK "):]
     return OF_MODULES[modules]
 
 
