@@ -86,7 +86,7 @@ class Ordered(Sets):
     def written(self):
         """The items by what a context has for them: names and aliases without a dot and a hyphen."""
         named = {path: path for path in self.names.declared[self.space.item]}
-        named |= {path: self.item_of(Entry(self.space.alias, path)) for path in self.names.declared[self.space.alias]}
+        named.update({path: self.item_of(Entry(self.space.alias, path)) for path in self.names.declared[self.space.alias]})
         return {path[0]: item for path, item in named.items() if len(path) == 1 and b"-" not in path[0]}
 
 

@@ -23,7 +23,7 @@ def is_name(word):
 
 
 def is_path(word):
-    return all(is_name(name) for name in word.removeprefix(b".").split(b"."))
+    return all(is_name(name) for name in word[word.startswith(b"."):].split(b"."))
 
 
 class Unreadable(Exception):
