@@ -30,7 +30,11 @@ pub enum LoadEnd {
 /// accepted, and else the host is as it was.
 ///
 /// After the first call of the writer that fails it is not called again.
-pub fn load<S: BuildHasher + Drop, W: Sink>(alloc: Global, host: &mut Host<S>, writer: &mut W) -> LoadEnd
+pub fn load<S: BuildHasher + Drop, W: Sink>(
+    alloc: Global,
+    host: &mut Host<S>,
+    writer: &mut W,
+) -> LoadEnd
     requires { W.failed writer.old < most_failures }
     // Exactly one call failed if the result says so, and none otherwise.
     ensures failed { W.failed writer.new ≡ W.failed writer.old + load_failures result }

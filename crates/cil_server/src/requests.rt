@@ -14,8 +14,8 @@ use crate::loading::LoadEnd;
 use crate::optional_replies::{put_optionals, put_why};
 use crate::output::Output;
 use crate::replies::{
-    put_bundle, put_checked, put_faults, put_host_error, put_imported, put_installed, put_lines, put_loaded,
-    put_query_fault, put_refused,
+    put_bundle, put_checked, put_faults, put_host_error, put_imported, put_installed, put_lines,
+    put_loaded, put_query_fault, put_refused,
 };
 use cil_base::NoMemory;
 use cil_host::Host;
@@ -137,7 +137,11 @@ pub(crate) fn load<S: BuildHasher + Drop, W: Sink>(
 }
 
 /// OPTIONALS: tells a line for each optional of the loaded policy.
-fn optionals<S: BuildHasher + Drop, W: Sink>(alloc: Global, host: &Host<S>, output: &mut Output<'_, W>)
+fn optionals<S: BuildHasher + Drop, W: Sink>(
+    alloc: Global,
+    host: &Host<S>,
+    output: &mut Output<'_, W>,
+)
     requires { output.old.has_failed ≡ false }
     ensures { IsAnswered host.now AsksOptionals host.now (Tells output.old output.new) }
 {
@@ -176,7 +180,12 @@ fn check<S: BuildHasher + Drop, W: Sink>(
 }
 
 /// SET: turns a boolean on or off, or tells why it cannot.
-fn set<S: BuildHasher + Drop, W: Sink>(host: &mut Host<S>, output: &mut Output<'_, W>, name: &[u8], value: bool)
+fn set<S: BuildHasher + Drop, W: Sink>(
+    host: &mut Host<S>,
+    output: &mut Output<'_, W>,
+    name: &[u8],
+    value: bool,
+)
     requires { output.old.has_failed ≡ false }
     ensures { IsAnswered host.old (Sets name.now value) host.new (Tells output.old output.new) }
 {
