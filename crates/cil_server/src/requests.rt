@@ -104,7 +104,8 @@ fn list<S: BuildHasher + Drop, W: Sink>(alloc: Global, host: &Host<S>, output: &
     }
 }
 
-/// LOAD: loads the modules, and tells the length and the digest of their tables; or tells their faults. Returns how it ended; whether the writer fails does not count.
+/// LOAD: loads the modules, and tells the length and the digest of their tables; or tells their faults. Returns how it ended;
+/// whether the writer fails does not count.
 pub(crate) fn load<S: BuildHasher + Drop, W: Sink>(
     alloc: Global,
     host: &mut Host<S>,

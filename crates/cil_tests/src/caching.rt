@@ -1,5 +1,5 @@
-//! A cache of decisions apart from a host. What it answers is proved; that it keeps what it has decided is shown here, since a cache may always be
-//! out of memory.
+//! A cache of decisions apart from a host. What it answers is proved; that it keeps what it has decided is shown here, since a
+//! cache may always be out of memory.
 
 use crate::growths::FIRST;
 use crate::hosts::Hashers;
@@ -24,7 +24,7 @@ fn tables(alloc: Global) -> Option<Tables> {
     }
 }
 
-/// A decision that allows this and leaves open which denials are recorded.
+/// Whether a decision allows just this, and records every denial.
 fn is_allowed(decision: Decision, mask: u32) -> bool {
     decision.allowed == mask && decision.auditallow == 0 && decision.auditdeny == 0b11
 }
