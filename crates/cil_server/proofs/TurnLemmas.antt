@@ -25,7 +25,7 @@ use Rattle.cil_server.specs.Asked.Request.{Asks, AsksOptionals, AsksWhy, Checks,
 use Rattle.cil_server.specs.Load.{IsLoaded}
 use Rattle.cil_server.specs.declared.loading.LoadEnd.{LoadEnd}
 use Rattle.cil_server.specs.declared.loading.LoadEnd.TheVariants as ends
-use Rattle.cil_server.specs.Replies.{newline, no_memory, of_check, of_decision, of_export, of_host_error, of_list, of_load, of_optionals, of_query_fault, of_set, of_why, ok, refused, spaced}
+use Rattle.cil_server.specs.Replies.{newline, no_memory, of_check, of_decision, of_export, of_host_error, of_list, of_load, of_loaded, of_optionals, of_query_fault, of_set, of_why, refused, spaced}
 use Rattle.cil_server.specs.Step.{MayLack, NeedsPolicy, Step}
 use Rattle.cil_server.specs.Turns.{IsAnswered, TellsDecision}
 
@@ -44,7 +44,7 @@ module _ (tells : List ℕ → Type 0) where
   pub lists_lack : (h : State) → tells no_memory → IsAnswered h Lists h tells
   lists_lack h told = record { reply = no_memory; step = Step.lack MayLack.lists; told = told }
 
-  pub loaded : (old new : State) (u : Loaded) (r : Result Loaded Failure) → r ≡ Ok u → LoadsHost old new r → tells ok → IsLoaded old new tells ends.Loaded
+  pub loaded : (old new : State) (u : Loaded) (r : Result Loaded Failure) → r ≡ Ok u → LoadsHost old new r → tells (of_loaded u) → IsLoaded old new tells ends.Loaded
   loaded old new u r e l told = record { result = Ok u; loads = subst (LoadsHost old new) e l; told = told; is_end = refl }
 
   pub load_refused : (old new : State) (faults : List Fault) (r : Result Loaded Failure) (lines : List ℕ) (count : ℕ) → r ≡ Err (failures.Faults faults) → LoadsHost old new r

@@ -23,6 +23,7 @@ use Rattle.cil_host.specs.declared.fault.HostError.{HostError}
 use Rattle.cil_host.specs.declared.fault.HostError.TheVariants as errors
 use Rattle.cil_host.specs.declared.fault.QueryFault.{QueryFault}
 use Rattle.cil_host.specs.declared.fault.QueryFault.TheVariants as query
+use Rattle.cil_host.specs.declared.host.Loaded.{Loaded}
 use Rattle.cil_host.specs.declared.listing.ListLine.{ListLine}
 
 abbrev pub newline : List ℕ
@@ -114,8 +115,12 @@ of_why lines = ok_number (length lines) ++ flat_map of_why_line lines
 abbrev pub of_faults : List Fault → List ℕ
 of_faults faults = codes "FAULTS" ++ spaced (length faults) ++ newline ++ printed faults
 
-abbrev pub of_load : {X : Type 0} → Result X Failure → List ℕ
-of_load (Ok x) = ok
+-- how many bytes the tables have in decimal, and their SHA-256 digest in lower-case hexadecimal
+abbrev pub of_loaded : Loaded → List ℕ
+of_loaded loaded = codes "OK" ++ spaced loaded.length ++ (32 ∷ encode_lower loaded.digest) ++ newline
+
+abbrev pub of_load : Result Loaded Failure → List ℕ
+of_load (Ok loaded) = of_loaded loaded
 of_load (Err (failures.Faults faults)) = of_faults faults
 of_load (Err failures.NoMemory) = no_memory
 

@@ -11,9 +11,10 @@ use crate::output::Output;
 use cil_base::Bytes;
 use cil_decide::Decision;
 use cil_host::Host;
+use std::hash::BuildHasher;
 
 /// A decision on a class, by the names of its permissions.
-pub(crate) fn put_decision<S: Drop, W: Sink>(
+pub(crate) fn put_decision<S: BuildHasher + Drop, W: Sink>(
     output: &mut Output<'_, W>,
     host: &Host<S>,
     class: &[u8],

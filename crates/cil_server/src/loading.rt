@@ -11,6 +11,7 @@ use crate::requests;
 use cil_base::NoMemory;
 use cil_host::Host;
 use std::alloc::Global;
+use std::hash::BuildHasher;
 
 /// How a load ended.
 #[derive(Clone, Copy, Debug, PartialEq, Eq)]
@@ -29,7 +30,11 @@ pub enum LoadEnd {
 /// accepted, and else the host is as it was.
 ///
 /// After the first call of the writer that fails it is not called again.
-pub fn load<S: Drop, W: Sink>(alloc: Global, host: &mut Host<S>, writer: &mut W) -> LoadEnd
+pub fn load<S: BuildHasher + Drop, W: Sink>(
+    alloc: Global,
+    host: &mut Host<S>,
+    writer: &mut W,
+) -> LoadEnd
     requires { W.failed writer.old < most_failures }
     // Exactly one call failed if the result says so, and none otherwise.
     ensures failed { W.failed writer.new ≡ W.failed writer.old + load_failures result }
@@ -42,7 +47,7 @@ pub fn load<S: Drop, W: Sink>(alloc: Global, host: &mut Host<S>, writer: &mut W)
 }
 
 /// Loads the modules with the memory for the buffer.
-fn load_with<S: Drop, W: Sink>(
+fn load_with<S: BuildHasher + Drop, W: Sink>(
     alloc: Global,
     host: &mut Host<S>,
     writer: &mut W,
@@ -62,7 +67,7 @@ fn load_with<S: Drop, W: Sink>(
 }
 
 /// Loads the modules, and writes all of the reply.
-fn finish<S: Drop, W: Sink>(
+fn finish<S: BuildHasher + Drop, W: Sink>(
     alloc: Global,
     host: &mut Host<S>,
     output: &mut Output<'_, W>,

@@ -2,12 +2,12 @@
 
 ghost use Rattle.std.specs.Prelude.{◌++◌, codes, decimal};
 ghost use Rattle.hex.specs.Hex.{encode_lower};
-ghost use Rattle.cil_server.specs.Replies.{newline, of_bundle_fault, of_check, of_export, of_host_error, of_import, of_install, of_line, of_list, of_query_fault, ok_number, refused, refused_at, spaced};
+ghost use Rattle.cil_server.specs.Replies.{newline, of_bundle_fault, of_check, of_export, of_host_error, of_import, of_install, of_line, of_list, of_loaded, of_query_fault, ok_number, refused, refused_at, spaced};
 ghost use Rattle.cil_server.specs.Streams.{Tells};
 
 use crate::devices::Sink;
 use crate::output::Output;
-use cil_host::{HostError, ListLine, QueryFault};
+use cil_host::{HostError, ListLine, Loaded, QueryFault};
 use cil_modset::{BundleError, BundleFault, Installed};
 use cil_sexpr::ReadError;
 use itoa::Buffer;
@@ -130,6 +130,17 @@ fn put_digest<W: Sink>(output: &mut Output<'_, W>, digest: [u8; 32])
         return;
     }
     output.put(&digits);
+}
+
+/// What a load is told by: how many bytes the tables have, and the digest of these.
+pub(crate) fn put_loaded<W: Sink>(output: &mut Output<'_, W>, loaded: Loaded)
+    ensures { Tells output.old output.new (of_loaded loaded) }
+{
+    output.put(b"OK");
+    put_number(output, loaded.length);
+    output.put(b" ");
+    put_digest(output, loaded.digest);
+    output.put(b"\n");
 }
 
 /// The lines of some faults, and how many there are.

@@ -15,15 +15,16 @@ use crate::optional_replies::{put_optionals, put_why};
 use crate::output::Output;
 use crate::replies::{
     put_bundle, put_checked, put_faults, put_host_error, put_imported, put_installed, put_lines,
-    put_query_fault, put_refused,
+    put_loaded, put_query_fault, put_refused,
 };
 use cil_base::NoMemory;
 use cil_host::Host;
 use cil_syntax::{Failure, render};
 use std::alloc::Global;
+use std::hash::BuildHasher;
 
 /// Answers a request without a body.
-pub(crate) fn reply<S: Drop, W: Sink>(
+pub(crate) fn reply<S: BuildHasher + Drop, W: Sink>(
     alloc: Global,
     host: &mut Host<S>,
     output: &mut Output<'_, W>,
@@ -54,7 +55,7 @@ pub(crate) fn reply<S: Drop, W: Sink>(
 }
 
 /// INSTALL: hands a text to the host, and replies whether it was new.
-pub(crate) fn install<S: Drop, W: Sink>(
+pub(crate) fn install<S: BuildHasher + Drop, W: Sink>(
     alloc: Global,
     host: &mut Host<S>,
     output: &mut Output<'_, W>,
@@ -68,7 +69,7 @@ pub(crate) fn install<S: Drop, W: Sink>(
 }
 
 /// IMPORT: hands a bundle to the host, and replies how many modules were new.
-pub(crate) fn import<S: Drop, W: Sink>(
+pub(crate) fn import<S: BuildHasher + Drop, W: Sink>(
     alloc: Global,
     host: &mut Host<S>,
     output: &mut Output<'_, W>,
@@ -82,7 +83,7 @@ pub(crate) fn import<S: Drop, W: Sink>(
 }
 
 /// EXPORT: tells the bundle of the modules.
-fn export<S: Drop, W: Sink>(alloc: Global, host: &Host<S>, output: &mut Output<'_, W>)
+fn export<S: BuildHasher + Drop, W: Sink>(alloc: Global, host: &Host<S>, output: &mut Output<'_, W>)
     requires { output.old.has_failed ≡ false }
     ensures { IsAnswered host.now Exports host.now (Tells output.old output.new) }
 {
@@ -93,7 +94,7 @@ fn export<S: Drop, W: Sink>(alloc: Global, host: &Host<S>, output: &mut Output<'
 }
 
 /// LIST: tells a line for each module.
-fn list<S: Drop, W: Sink>(alloc: Global, host: &Host<S>, output: &mut Output<'_, W>)
+fn list<S: BuildHasher + Drop, W: Sink>(alloc: Global, host: &Host<S>, output: &mut Output<'_, W>)
     requires { output.old.has_failed ≡ false }
     ensures { IsAnswered host.now Lists host.now (Tells output.old output.new) }
 {
@@ -103,8 +104,9 @@ fn list<S: Drop, W: Sink>(alloc: Global, host: &Host<S>, output: &mut Output<'_,
     }
 }
 
-/// LOAD: loads the modules, or tells their faults. Returns how it ended; whether the writer fails does not count.
-pub(crate) fn load<S: Drop, W: Sink>(
+/// LOAD: loads the modules, and tells the length and the digest of their tables; or tells their faults. Returns how it ended;
+/// whether the writer fails does not count.
+pub(crate) fn load<S: BuildHasher + Drop, W: Sink>(
     alloc: Global,
     host: &mut Host<S>,
     output: &mut Output<'_, W>,
@@ -114,8 +116,8 @@ pub(crate) fn load<S: Drop, W: Sink>(
     ensures loads { IsLoaded host.old host.new (Tells output.old output.new) result }
 {
     match host.load(alloc) {
-        Ok(_) => {
-            output.put(b"OK\n");
+        Ok(loaded) => {
+            put_loaded(output, loaded);
             LoadEnd::Loaded
         }
         Err(Failure::Faults(faults)) => match render(alloc, &faults) {
@@ -136,7 +138,11 @@ pub(crate) fn load<S: Drop, W: Sink>(
 }
 
 /// OPTIONALS: tells a line for each optional of the loaded policy.
-fn optionals<S: Drop, W: Sink>(alloc: Global, host: &Host<S>, output: &mut Output<'_, W>)
+fn optionals<S: BuildHasher + Drop, W: Sink>(
+    alloc: Global,
+    host: &Host<S>,
+    output: &mut Output<'_, W>,
+)
     requires { output.old.has_failed ≡ false }
     ensures { IsAnswered host.now AsksOptionals host.now (Tells output.old output.new) }
 {
@@ -147,7 +153,7 @@ fn optionals<S: Drop, W: Sink>(alloc: Global, host: &Host<S>, output: &mut Outpu
 }
 
 /// WHY: tells a line for each optional that is left out.
-fn why<S: Drop, W: Sink>(alloc: Global, host: &Host<S>, output: &mut Output<'_, W>)
+fn why<S: BuildHasher + Drop, W: Sink>(alloc: Global, host: &Host<S>, output: &mut Output<'_, W>)
     requires { output.old.has_failed ≡ false }
     ensures { IsAnswered host.now AsksWhy host.now (Tells output.old output.new) }
 {
@@ -158,7 +164,7 @@ fn why<S: Drop, W: Sink>(alloc: Global, host: &Host<S>, output: &mut Output<'_, 
 }
 
 /// CHECK: tells whether a permission is allowed, or why there is no answer.
-fn check<S: Drop, W: Sink>(
+fn check<S: BuildHasher + Drop, W: Sink>(
     host: &mut Host<S>,
     output: &mut Output<'_, W>,
     query: Query<'_>,
@@ -175,7 +181,12 @@ fn check<S: Drop, W: Sink>(
 }
 
 /// SET: turns a boolean on or off, or tells why it cannot.
-fn set<S: Drop, W: Sink>(host: &mut Host<S>, output: &mut Output<'_, W>, name: &[u8], value: bool)
+fn set<S: BuildHasher + Drop, W: Sink>(
+    host: &mut Host<S>,
+    output: &mut Output<'_, W>,
+    name: &[u8],
+    value: bool,
+)
     requires { output.old.has_failed ≡ false }
     ensures { IsAnswered host.old (Sets name.now value) host.new (Tells output.old output.new) }
 {
@@ -186,7 +197,7 @@ fn set<S: Drop, W: Sink>(host: &mut Host<S>, output: &mut Output<'_, W>, name: &
 }
 
 /// AV: tells a decision, or why there is none.
-fn ask<S: Drop, W: Sink>(
+fn ask<S: BuildHasher + Drop, W: Sink>(
     host: &mut Host<S>,
     output: &mut Output<'_, W>,
     source: &[u8],

@@ -20,6 +20,7 @@ use crate::turn::Turn;
 use cil_base::NoMemory;
 use cil_host::Host;
 use std::alloc::Global;
+use std::hash::BuildHasher;
 
 /// How many requests a session may have.
 const MOST_REQUESTS: u32 = 1_000_000;
@@ -51,7 +52,7 @@ struct Session<'r, 'w, R: Source, W: Sink> {
 /// for each reply before it sends more. At most 65,536 bytes are read beyond the last request, or a part of the next one.
 ///
 /// Returns how the session ended: `Fault(0)` if there is no memory for its buffers, and then nothing was read or written.
-pub fn serve<S: Drop, R: Source, W: Sink>(
+pub fn serve<S: BuildHasher + Drop, R: Source, W: Sink>(
     alloc: Global,
     host: &mut Host<S>,
     reader: &mut R,
@@ -73,7 +74,7 @@ pub fn serve<S: Drop, R: Source, W: Sink>(
 }
 
 /// Serves a session with the memory for it.
-fn serve_with<S: Drop, R: Source, W: Sink>(
+fn serve_with<S: BuildHasher + Drop, R: Source, W: Sink>(
     alloc: Global,
     host: &mut Host<S>,
     reader: &mut R,
@@ -130,7 +131,7 @@ impl<'r, 'w, R: Source, W: Sink> Session<'r, 'w, R, W> {
     }
 
     /// Runs all requests of the session, and writes the replies that still wait.
-    fn finish<S: Drop>(&mut self, alloc: Global, host: &mut Host<S>) -> Served
+    fn finish<S: BuildHasher + Drop>(&mut self, alloc: Global, host: &mut Host<S>) -> Served
         requires room { length self.old.line.items ≡ suc longest_line }
         requires reader { self.old.streams.input.failures < most_failures }
         requires writer { self.old.streams.output.has_failed ≡ false }
@@ -151,7 +152,7 @@ impl<'r, 'w, R: Source, W: Sink> Session<'r, 'w, R, W> {
     }
 
     /// Runs all requests of the session.
-    fn run<S: Drop>(&mut self, alloc: Global, host: &mut Host<S>) -> Served
+    fn run<S: BuildHasher + Drop>(&mut self, alloc: Global, host: &mut Host<S>) -> Served
         requires room { length self.old.line.items ≡ suc longest_line }
         requires reader { self.old.streams.input.failures < most_failures }
         requires writer { self.old.streams.output.has_failed ≡ false }
@@ -174,7 +175,7 @@ impl<'r, 'w, R: Source, W: Sink> Session<'r, 'w, R, W> {
     }
 
     /// Reads the next line and answers it.
-    fn next_turn<S: Drop>(&mut self, alloc: Global, host: &mut Host<S>) -> Turn
+    fn next_turn<S: BuildHasher + Drop>(&mut self, alloc: Global, host: &mut Host<S>) -> Turn
         requires room { length self.old.line.items ≡ suc longest_line }
         requires reader { self.old.streams.input.failures < most_failures }
         requires writer { self.old.streams.output.has_failed ≡ false }

@@ -20,6 +20,7 @@ use crate::served::Served;
 use crate::streams::{Body, Streams};
 use cil_host::Host;
 use std::alloc::Global;
+use std::hash::BuildHasher;
 
 /// Whether a session goes on.
 #[derive(Clone, Copy)]
@@ -30,7 +31,7 @@ pub(crate) enum Turn {
 
 impl<'r, 'w, R: Source, W: Sink> Streams<'r, 'w, R, W> {
     /// Answers a line, and reads the body that follows it.
-    pub(crate) fn answer<S: Drop>(
+    pub(crate) fn answer<S: BuildHasher + Drop>(
         &mut self,
         alloc: Global,
         host: &mut Host<S>,

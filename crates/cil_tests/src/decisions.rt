@@ -2,6 +2,7 @@
 //! give is in `rows/policies.session`, what booleans do in `rows/booleans.session`.
 
 use crate::growths::FIRST;
+use crate::hosts::{Hashers, new_host};
 use cil_base::Names;
 use cil_decide::{
     ClassId, Context, boolean_named, class_named, decide, defaults, parse_context, permission_at,
@@ -131,19 +132,19 @@ fn tables_answer(rt: HostRuntime) {
 }
 
 /// What becomes of a boolean of the loaded policy, and whether the first type may open the second then.
-fn turned(host: &mut Host<u8>, name: &[u8], value: bool) -> Result<bool, QueryFault> {
+fn turned(host: &mut Host<Hashers>, name: &[u8], value: bool) -> Result<bool, QueryFault> {
     host.set_boolean(name, value)?;
     host.check(b"u:r:a", b"u:r:b", b"file", b"open")
 }
 
-fn loads(alloc: Global, host: &mut Host<u8>) -> bool {
+fn loads(alloc: Global, host: &mut Host<Hashers>) -> bool {
     host.install(alloc, FIRST.as_bytes()).is_ok()
         && host.install(alloc, SWITCHED.as_bytes()).is_ok()
         && host.load(alloc).is_ok()
 }
 
 /// Whether a host answers nothing before it has a policy, and by the policy then.
-fn host_answers(alloc: Global, host: &mut Host<u8>) -> bool {
+fn host_answers(alloc: Global, host: &mut Host<Hashers>) -> bool {
     host.permission(b"file", 0).is_none()
         && turned(host, b"late", true) == Err(QueryFault::NoPolicy)
         && loads(alloc, host)
@@ -158,10 +159,11 @@ fn host_answers(alloc: Global, host: &mut Host<u8>) -> bool {
 }
 
 #[test]
-fn a_host_answers(rt: HostRuntime) {
-    let mut host: Host<u8> = Host::new(rt.alloc(), 512, 0);
+fn a_host_answers(rt: HostRuntime) -> Result<(), Fail> {
+    let mut host = new_host(rt.alloc()).ok_or("no host")?;
     let is_so = host_answers(rt.alloc(), &mut host);
     assert!(rt; is_so);
+    Ok(())
 }
 
 fn are_kept(alloc: Global) -> Option<bool> {

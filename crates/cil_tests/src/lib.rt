@@ -4,10 +4,14 @@
 #![tactic(auto)]
 
 #[cfg(test)]
+mod caching;
+#[cfg(test)]
 mod covering;
 #[cfg(test)]
 mod decisions;
 #[cfg(test)]
 mod growths;
+#[cfg(test)]
+mod hosts;
 #[cfg(test)]
 mod streams;

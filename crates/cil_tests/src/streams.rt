@@ -3,12 +3,14 @@
 ghost use Rattle.std.specs.Prelude.{◌<◌};
 ghost use Rattle.cil_server.specs.Devices.{most_failures};
 
+use crate::hosts::{Hashers, new_host};
 use cil_host::Host;
 use cil_server::{Counted, Served, Sink, Source, serve};
 use std::alloc::Global;
 use std::cell::Cell;
 use std::io;
 use std::io::{Read, Write};
+use std::test::Fail;
 
 /// A reader that gives at most so many bytes a call. Behind so many calls one fails, and those after it go on.
 #[derive(Drop)]
@@ -95,7 +97,7 @@ fn make_closing<'a>(alloc: Global, step: usize, calls: usize, nothing: bool) -> 
 /// How a session ends, and how many modules the host has then.
 fn serve_on<R: Source, W: Sink>(
     alloc: Global,
-    host: &mut Host<u8>,
+    host: &mut Host<Hashers>,
     reader: &mut R,
     writer: &mut W,
 ) -> (Served, usize)
@@ -113,8 +115,10 @@ fn serve_new<R: Source, W: Sink>(alloc: Global, reader: &mut R, writer: &mut W) 
     requires reader { R.failed reader.old < most_failures }
     requires writer { W.failed writer.old < most_failures }
 {
-    let mut host: Host<u8> = Host::new(alloc, 512, 0);
-    serve_on(alloc, &mut host, reader, writer)
+    match new_host(alloc) {
+        Some(mut host) => serve_on(alloc, &mut host, reader, writer),
+        None => (Served::Fault(0), 99),
+    }
 }
 
 /// Whether a session ends as it has to whose reader gives one byte a call, of the first of the input, and then fails.
@@ -256,7 +260,7 @@ fn each_reply_is_out_before_more_is_asked_for(rt: HostRuntime) {
 }
 
 /// Whether the writer fails in a long reply, and the request that came with it is not begun.
-fn stops_in_a_long_reply(alloc: Global, host: &mut Host<u8>) -> bool {
+fn stops_in_a_long_reply(alloc: Global, host: &mut Host<Hashers>) -> bool {
     let mut reader = Counted::new(b"EXPORT\nINSTALL 8\n(type a)QUIT\n".as_slice());
     let mut writer = Counted::new(make_closing(alloc, 10, 3, false));
     let ending = serve_on(alloc, host, &mut reader, &mut writer);
@@ -266,7 +270,7 @@ fn stops_in_a_long_reply(alloc: Global, host: &mut Host<u8>) -> bool {
 }
 
 /// Whether a host keeps a text of so many spaces.
-fn keeps_spaces(alloc: Global, host: &mut Host<u8>, count: usize) -> bool {
+fn keeps_spaces(alloc: Global, host: &mut Host<Hashers>, count: usize) -> bool {
     match vec![in alloc; b' '; count] {
         Ok(text) => host.install(alloc, text.as_slice()).is_ok(),
         Err(_) => false,
@@ -274,11 +278,12 @@ fn keeps_spaces(alloc: Global, host: &mut Host<u8>, count: usize) -> bool {
 }
 
 #[test]
-fn no_request_is_begun_once_the_writer_has_failed(rt: HostRuntime) {
-    let mut host: Host<u8> = Host::new(rt.alloc(), 512, 0);
+fn no_request_is_begun_once_the_writer_has_failed(rt: HostRuntime) -> Result<(), Fail> {
+    let mut host = new_host(rt.alloc()).ok_or("no host")?;
     let is_so = keeps_spaces(rt.alloc(), &mut host, 70_000)
         && stops_in_a_long_reply(rt.alloc(), &mut host);
     assert!(rt; is_so);
+    Ok(())
 }
 
 #[test]

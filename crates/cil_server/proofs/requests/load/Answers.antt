@@ -4,10 +4,10 @@ use Rattle.cil_server.proofs.TurnLemmas.{load_answers, load_lacks, load_refused,
 use Rattle.cil_server.proofs.requests.load.Goals as goal
 
 pub returns-in-Ok-clause-loads : goal.returns-in-Ok-clause-loads
-returns-in-Ok-clause-loads g c = loaded _ _ _ _ _ c.in-Ok.is c.load.ensures c.put.ensures
+returns-in-Ok-clause-loads g c = loaded _ _ _ _ _ c.in-Ok.is c.load.ensures c.put_loaded.ensures
 
 pub returns-in-Ok-clause-answers : goal.returns-in-Ok-clause-answers
-returns-in-Ok-clause-answers g c = load_answers _ _ _ _ (loaded _ _ _ _ _ c.in-Ok.is c.load.ensures c.put.ensures)
+returns-in-Ok-clause-answers g c = load_answers _ _ _ _ (loaded _ _ _ _ _ c.in-Ok.is c.load.ensures c.put_loaded.ensures)
 
 pub returns-in-Ok-render-clause-loads : goal.returns-in-Ok-render-clause-loads
 returns-in-Ok-render-clause-loads g c =
