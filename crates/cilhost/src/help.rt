@@ -97,6 +97,10 @@ the same form, and then nothing is loaded. Standard input is not read.";
 /// What the flag `--optionals` asks for.
 pub const OPTIONALS: &str = "If there is no fault, say which optionals are left out, and why";
 
+/// What the option `--cache` asks for.
+pub const CACHE: &str =
+    "How many decisions to keep for queries that come again, from 1 to 65536 [default: 512]";
+
 /// An example of `locate` and the exit statuses.
 pub const LOCATE_MORE: &str = "Example:
   $ cilhost locate base.cil web.cil

@@ -3,6 +3,7 @@
 ghost use Rattle.std.specs.Prelude.{◌≡◌, Some, find, option_map};
 ghost use Rattle.std.specs.Str.{bytes_eq};
 
+use crate::capacity::CAPACITY;
 use crate::check::run_check;
 use crate::locate::run_locate;
 use crate::program::{Streams, run};
@@ -11,6 +12,7 @@ use crate::status::Status;
 use crate::system::{System, note, start_of};
 use cil_server::Counted;
 use std::alloc::{AllocError, Global};
+use std::hash::{BuildHasherDefault, DefaultHasher};
 use std::io::{self, ErrorKind, Read, Write};
 
 /// A reader in memory, which may fail where its bytes end.
@@ -44,7 +46,7 @@ impl System for MemorySystem<'_> {
 
     ghost failure = { λ s. s.failure };
 
-    type Hasher = u8;
+    type Hasher = BuildHasherDefault<DefaultHasher>;
 
     fn read(&mut self, alloc: Global, name: &str, limit: u64) -> io::Result<Vec<u8>> {
         let text = match file_named(self.files, name) {
@@ -62,10 +64,10 @@ impl System for MemorySystem<'_> {
         text
     }
 
-    fn hasher(&mut self) -> io::Result<u8> {
+    fn hasher(&mut self) -> io::Result<BuildHasherDefault<DefaultHasher>> {
         let hasher = match self.no_hasher {
             Some(kind) => Err(io::Error::from(kind)),
-            None => Ok(0),
+            None => Ok(BuildHasherDefault::new()),
         };
         note(&mut self.failure, &hasher);
         hasher
@@ -152,7 +154,7 @@ pub fn session(alloc: Global, mut system: MemorySystem<'_>, files: &[&str], inpu
         output: Counted::new(Vec::new(alloc)),
         messages: Vec::new(alloc),
     };
-    let status = run_session(alloc, files, &mut system, &mut streams);
+    let status = run_session(alloc, CAPACITY, files, &mut system, &mut streams);
     what_is_left(status, streams)
 }
 

@@ -1,5 +1,6 @@
 //! The program over files and streams in memory, and over the machine.
 
+use crate::capacity::CAPACITY;
 use crate::in_memory::{Closed, FILLED, MemoryReader, MemorySystem, session};
 use crate::program::Streams;
 use crate::session::{end, run_session};
@@ -171,7 +172,7 @@ fn a_message_that_cannot_be_written_changes_no_status(rt: HostRuntime) {
         messages: Closed,
     };
     let mut system = FILLED;
-    let status = run_session(rt.alloc(), &["bad.cil"], &mut system, &mut streams);
+    let status = run_session(rt.alloc(), CAPACITY, &["bad.cil"], &mut system, &mut streams);
     assert!(rt; status == Status::Refused);
 }
 
@@ -184,7 +185,7 @@ fn the_machine_has_no_such_file(rt: HostRuntime) {
     };
     let mut machine = Machine::new(&rt);
     let files = ["there/is/none.cil"];
-    let status = run_session(rt.alloc(), &files, &mut machine, &mut streams);
+    let status = run_session(rt.alloc(), CAPACITY, &files, &mut machine, &mut streams);
     assert!(rt; status == Status::Failed);
     assert!(rt; streams.messages.as_slice() == b"cilhost: there/is/none.cil: failed\n".as_slice());
 }
@@ -200,7 +201,7 @@ fn an_input_that_fails_ends_the_session(rt: HostRuntime) {
         messages: Vec::new(rt.alloc()),
     };
     let mut system = FILLED;
-    let status = run_session(rt.alloc(), &[], &mut system, &mut streams);
+    let status = run_session(rt.alloc(), CAPACITY, &[], &mut system, &mut streams);
     assert!(rt; status == Status::Failed);
     assert!(rt; streams.messages.as_slice() == b"cilhost: -: failed\n".as_slice());
 }
@@ -213,7 +214,7 @@ fn an_output_that_fails_ends_the_session(rt: HostRuntime) {
         messages: Vec::new(rt.alloc()),
     };
     let mut system = FILLED;
-    let status = run_session(rt.alloc(), &[], &mut system, &mut streams);
+    let status = run_session(rt.alloc(), CAPACITY, &[], &mut system, &mut streams);
     assert!(rt; status == Status::Failed);
     assert!(rt; streams.messages.as_slice() == b"cilhost: -: failed\n".as_slice());
 }
