@@ -9,7 +9,7 @@ command -v valgrind >/dev/null || { echo "this script needs valgrind" >&2; exit 
 
 # Writes the policy of the form $1 with $2 booleanifs, macros or calls, and $3 permissions in a list. The requests that
 # install it go to $work/installed, with LOAD behind them to $work/loaded, and with a query behind that to $work/asked;
-# what the last two have to reply goes to $work/expected.
+# what the last one has to reply goes to $work/expected.
 policy() {
     local folder=$work/policy
     rm -rf "$folder"
@@ -17,7 +17,7 @@ policy() {
     awk -v form="$1" -v number="$2" -v words="$3" -v folder="$folder" '
         function query(source, target, permissions, class_permissions) {
             printf "AV u:r:%s u:r:%s file\n", source, target > (folder "/query")
-            printf "OK\nOK %s - %s\n", permissions, class_permissions > (folder "/expected")
+            printf "OK %s - %s\n", permissions, class_permissions > (folder "/expected")
         }
         BEGIN {
             module = folder "/0.cil"
@@ -80,8 +80,8 @@ row() {
     policy "$@"
     "$program" session <"$work/asked" >"$work/replies"
     expect_no_refusal
-    if ! tail -n 2 "$work/replies" | cmp - "$work/expected" >&2; then
-        echo "$1 $2: the replies to LOAD and AV are not as they should be" >&2
+    if ! tail -n 1 "$work/replies" | cmp - "$work/expected" >&2; then
+        echo "$1 $2: the reply to AV is not as it should be" >&2
         exit 1
     fi
     count "$work/installed"; installed=$(cat "$work/count")

@@ -34,7 +34,7 @@ row() {
     measure "$work/installed"; expect_no_refusal; installed=$(cat "$work/us")
     measure "$work/loaded"; expect_no_refusal; loaded=$(cat "$work/us")
     measure "$work/asked"; expect_no_refusal; told=$(cat "$work/us")
-    if [ "$(grep -c '^OK [0-9]' "$work/replies")" -ne 2 ] || ! grep -qx "OK $2" "$work/replies" ||
+    if [ "$(grep -c '^OK [0-9]*$' "$work/replies")" -ne 2 ] || ! grep -qx "OK $2" "$work/replies" ||
         ! grep -qx "OK $3" "$work/replies"; then
         echo "$1: not $3 of $2 optionals are out" >&2
         exit 1

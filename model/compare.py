@@ -1,6 +1,7 @@
 #!/usr/bin/env python3
 """Runs random sessions through the program and through the model, and compares replies and exit status, byte for byte.
-Replies to WHY need not be the same: they are judged by the model.
+The reply to LOAD has the digest of the tables, so these are compared too. Replies to WHY need not be the same: they are
+judged by the model.
 
 Of each kind, the first session that differs is cut down to the parts that matter, and printed.
 """
@@ -36,6 +37,9 @@ USUAL_COUNT = 200
 
 # So many sessions are given to a process at a time.
 AT_A_TIME = 50
+
+# The reply to a LOAD that is accepted: how many bytes the tables have, and their SHA-256.
+ACCEPTED_LOAD = rb"OK [0-9]+ [0-9a-f]{64}"
 
 
 def session(kind, number, language=table.ACCEPTED):
@@ -113,13 +117,13 @@ def run_some(given):
 
 def replies_counted(replies):
     """The replies to loads and queries of a session, by what they tell; a code once for a load that has it."""
-    for load in re.split(rb"\n(?=OK\n|FAULTS )", b"\n" + replies):
+    for load in re.split(rb"\n(?=%s\n|FAULTS )" % ACCEPTED_LOAD, b"\n" + replies):
         lines = load.split(b"\n")
         if lines[0].startswith(b"FAULTS "):
             yield "loads refused"
             faults = [lines.pop(1) for _ in range(int(lines[0][7:]))]
             yield from sorted({"fault " + line.split(b" ")[0].decode() for line in faults})
-        elif lines[0] == b"OK":
+        elif re.fullmatch(ACCEPTED_LOAD, lines[0]):
             yield "loads accepted"
         for line in lines:
             if re.fullmatch(rb"OK \S+ \S+ \S+", line):

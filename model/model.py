@@ -12,6 +12,7 @@ from faults import Refused
 from optionals import place_of
 from policy import Policy
 from table import ACCEPTED
+from table_records import loaded
 from texts import LONGEST_TEXT, Unreadable, read
 
 LONGEST_LINE = 4096
@@ -102,7 +103,7 @@ class Host:
             lines = [b"%d %d %d %s %s" % each for each in refusal.faults]
             return b"\n".join([b"FAULTS %d" % len(lines), *lines])
         self.settings = dict(self.policy.defaults)
-        return b"OK"
+        return b"OK " + loaded(self.policy)
 
     def query(self, *asked):
         return self.policy.query(*asked, self.settings) if self.policy else b"ERR 71"

@@ -3,7 +3,7 @@
 
 usage: model/sepol.py [FILE.session ...]        without a FILE all of rows/*.session
 
-A policy that is accepted here (`LOAD`, `OK`) gets what secilc wants of each policy besides: an order of its classes, an
+A policy that is accepted here (`LOAD`, `OK ..`) gets what secilc wants of each policy besides: an order of its classes, an
 initial context, and one sensitivity, which each user has, with levels off. Then each AV and CHECK of the row that has a decision is
 put to libsepol, before the first SET. Policies that secilc or libsepol refuses are counted and left out: docs/FROM_SECILC.md says
 in what both differ. One line is printed for each reply that differs, then how many were compared. Status: 0, or 1 if one
@@ -96,7 +96,7 @@ def queries_of(session):
         if word == "INSTALL:":
             texts.append(step.given.split(b"\n", 1)[1])
         elif word == "LOAD":
-            is_open = step.reply == b"OK\n"
+            is_open = step.reply.startswith(b"OK ")
             if is_open:
                 loads.append(([*texts], []))
         elif word == "SET":

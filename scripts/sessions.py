@@ -20,16 +20,22 @@ These stand for bytes, in texts, requests and replies:
     {bundle A B ..}              the bundle of the texts {A}, {B}, ..
     {exported A B ..}            the reply to EXPORT of a host that has these texts
     {list A B ..}                the reply to LIST of this host
+    {tables}        below LOAD, of an accepted policy: how many bytes its tables have, and their SHA-256. The model of
+                    model/ tells both, from the texts that were installed; nothing of it is taken from the program
     {}                           nothing. No line end follows a line of a reply that ends with {}, or is a bundle
 """
 
 import hashlib
 import itertools
 import re
+import sys
 from dataclasses import dataclass
 from pathlib import Path
 
 ROOT = Path(__file__).resolve().parent.parent
+sys.path.insert(0, str(ROOT / "model"))
+import model
+
 FIRST = (
     b"(class file (open read))(user u)(role r)(type a)(type b)"
     b"(userrole u r)(roletype r a)(roletype r b)(allow a b (file (read)))"
@@ -71,6 +77,43 @@ def exported(*texts):
     return b"OK %d\n%s" % (len(bundle), bundle)
 
 
+# What stands for the length and the digest of tables while the modules are not known, and these by modules.
+TABLES = b"{tables}"
+OF_MODULES = {}
+
+
+def tables_of(host):
+    """The length and the digest of the tables of a host's modules, by the model. Modules that it refuses are an error."""
+    modules = frozenset(host.modules)
+    if modules not in OF_MODULES:
+        reply = host.load()
+        if not reply.startswith(b"OK "):
+            raise ValueError(f"the model refuses the modules of a LOAD: {shown(reply)}")
+        OF_MODULES[modules] = reply.removeprefix(b"OK ")
+    return OF_MODULES[modules]
+
+
+def loaded(*texts):
+    """The reply to LOAD of a host with these modules, by the model."""
+    host = model.Host()
+    for text in texts:
+        host.install(text)
+    return b"OK %s\n" % tables_of(host)
+
+
+def with_tables(steps):
+    """The steps of a session, with {tables} put in of the modules that are installed before."""
+    if not any(TABLES in step.reply for step in steps):
+        return steps
+    host, done = model.Host(), []
+    for step in steps:
+        if step.given.startswith((b"INSTALL ", b"IMPORT ")):
+            model.run(step.given, host)
+        reply = step.reply.replace(TABLES, tables_of(host)) if TABLES in step.reply else step.reply
+        done.append(Step(step.request, step.given, reply))
+    return done
+
+
 # What the words in front of texts stand for in braces.
 KNOWN = {"": bytes, "bundle": bundled, "exported": exported, "list": lambda *texts: listed(*texts).rstrip(b"\n")}
 
@@ -91,6 +134,8 @@ def meant(part, names):
     times = re.fullmatch(r"(\d+) \* (.+)", part)
     if times:
         return int(times[1]) * names.get(times[2], times[2].encode())
+    if part.encode() == TABLES[1:-1]:
+        return TABLES
     word, *others = part.split(" ")
     if word in KNOWN:
         return KNOWN[word](*[names[name] for name in others])
@@ -191,6 +236,7 @@ def shown(text):
 
 def differences(steps, run):
     """What is wrong with a session: the first request whose reply is another one, the reply that is wanted, and what came."""
+    steps = with_tables(steps)
     status, out, messages = run(["session"], b"".join(step.given for step in steps))
     at, wrong = 0, []
     for i, step in enumerate(steps):
