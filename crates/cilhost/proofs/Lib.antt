@@ -1,4 +1,5 @@
 pub mod ArgumentLemmas
+pub mod CapacityLemmas
 pub mod CheckLemmas
 pub mod LocateLemmas
 pub mod ReadingLemmas

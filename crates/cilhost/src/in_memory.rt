@@ -1,6 +1,6 @@
 //! Files, streams and whole runs in memory, for the tests.
 
-ghost use Rattle.std.specs.Prelude.{◌≡◌, Some, find, option_map};
+ghost use Rattle.std.specs.Prelude.{◌≡◌, ◌≤◌, Some, find, option_map};
 ghost use Rattle.std.specs.Str.{bytes_eq};
 
 use crate::capacity::CAPACITY;
@@ -147,14 +147,28 @@ fn what_is_left(
     }
 }
 
-/// A session over files and an input in memory.
-pub fn session(alloc: Global, mut system: MemorySystem<'_>, files: &[&str], input: &[u8]) -> Left {
+/// A session over files and an input in memory, with a cache of the usual size.
+pub fn session(alloc: Global, system: MemorySystem<'_>, files: &[&str], input: &[u8]) -> Left {
+    cached_session(alloc, CAPACITY, system, files, input)
+}
+
+/// A session whose cache may hold so many decisions.
+pub fn cached_session(
+    alloc: Global,
+    capacity: usize,
+    mut system: MemorySystem<'_>,
+    files: &[&str],
+    input: &[u8],
+) -> Left
+    requires least { 1 ≤ capacity }
+    requires most { capacity ≤ 65536 }
+{
     let mut streams = Streams {
         input: Counted::new(input),
         output: Counted::new(Vec::new(alloc)),
         messages: Vec::new(alloc),
     };
-    let status = run_session(alloc, CAPACITY, files, &mut system, &mut streams);
+    let status = run_session(alloc, capacity, files, &mut system, &mut streams);
     what_is_left(status, streams)
 }
 
