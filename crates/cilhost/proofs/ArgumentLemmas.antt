@@ -57,9 +57,7 @@ abbrev leaf : Asked → Shape
 leaf asked = built_leaf (inherited program.top (app_of_asked asked).top)
 
 abbrev rules_of : Asked → List Rule
-rules_of a_check = filled_from 1 (file_rule 1 ∷ help_rule ∷ [])
-rules_of a_session = filled_from 1 (file_rule 0 ∷ cache_rule ∷ help_rule ∷ [])
-rules_of (a_sized_session size) = filled_from 1 (file_rule 0 ∷ cache_rule ∷ help_rule ∷ [])
+rules_of asked = (leaf asked).rules
 
 abbrev least_of : Asked → ℕ
 least_of a_check = 1
@@ -208,9 +206,13 @@ Asks asked words files = AskFor (name_of asked) (size_words (size_of asked)) wor
 
 -- the subcommand that was found, and the word behind `--cache` and the files that it was given
 abbrev found_in : Option (Text × List Row) → Option (Text × Option Text × Option (List Text))
-found_in = option_map (λ p. (p.0, given_in p.1))
+found_in = option_map (λ p. (p.0, first_of (codes "cache") p.1, all_of (codes "FILE") p.1))
 
-found_of_asked : (asked : Asked) (words : List Text) → found_in (entered (built program) (Some (name_of asked, words))) ≡ Some (name_of asked, given_in (rows_after (rules_of asked) [] words))
+-- this name, with what is given
+abbrev told_as : Text → Option Text × Option (List Text) → Option (Text × Option Text × Option (List Text))
+told_as name given = Some (name, given.0, given.1)
+
+found_of_asked : (asked : Asked) (words : List Text) → found_in (entered (built program) (Some (name_of asked, words))) ≡ told_as (name_of asked) (given_in (rows_after (rules_of asked) [] words))
 unfolding clap_on_literals
 found_of_asked a_check words = refl
 found_of_asked a_session words = refl
@@ -220,7 +222,7 @@ command_is_asked : (asked : Asked) (words files : List Text) → Asks asked word
 command_is_asked asked words files ((name, is, all), plain) =
     let stopped : subcommand_of program words ≡ entered (built program) (Some (name_of asked, all_words asked files)) =
     rw is (ap (λ (w : Walk). entered (built program) w.stopped) (stops_there asked (all_words asked files))) in
-    ap found_in stopped ∙ found_of_asked asked (all_words asked files) ∙ ap (λ given. Some (name_of asked, given)) (given_by_rows asked files plain all)
+    ap found_in stopped ∙ found_of_asked asked (all_words asked files) ∙ ap (told_as (name_of asked)) (given_by_rows asked files plain all)
 
 pub files_are_found : (asked : Asked) (words files : List Text) → Asks asked words files → names_in (subcommand_of program words) ≡ Some (name_of asked, given_names files)
 files_are_found asked words files asks = names (subcommand_of program words) ∙ ap (option_map (λ p. (p.0, p.2))) (command_is_asked asked words files asks)

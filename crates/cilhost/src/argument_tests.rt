@@ -35,10 +35,7 @@ const WRONG: &[(&[&str], &str)] = &[
     (&["session", "--cache", "01"], NO_SIZE),
     (&["session", "--cache", "+1"], NO_SIZE),
     (&["session", "--cache", "1 "], NO_SIZE),
-    (
-        &["session", "--cache", "18446744073709551617"],
-        NO_SIZE,
-    ),
+    (&["session", "--cache", "18446744073709551617"], NO_SIZE),
     (&["session", "none.cil", "--cache=0"], NO_SIZE),
     (
         &["session", "--cache"],

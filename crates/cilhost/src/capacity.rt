@@ -15,9 +15,9 @@ const MOST: usize = 65_536;
 /// How many decisions the cache is to hold at most: the number that the word behind `--cache` spells, or 512 without one. There is
 /// none where the word is not a number from 1 to 65536, in decimal and without needless zeros.
 pub fn capacity_of(size: Option<&str>) -> Option<usize>
-    ensures some { IfSome result (AsksForCache (option_map (λ word. word.now) size)) }
+    ensures some { IfSome result (AsksForCache (option_map (λ word. word.now) size.entry)) }
     ensures within { IfSome result (λ capacity. (1 ≤ capacity) × (capacity ≤ 65536)) }
-    ensures none { IfNone result (HasNoCapacity (option_map (λ word. word.now) size)) }
+    ensures none { IfNone result (HasNoCapacity (option_map (λ word. word.now) size.entry)) }
 {
     match size {
         Some(word) => spelled(word),

@@ -112,11 +112,11 @@ fn sized_session<Y: System, R: Source, W: Sink, E: Write>(
 ) -> Status
     requires reader { R.failed streams.old.input < most_failures }
     requires writer { W.failed streams.old.output < most_failures }
-    ensures session { (capacity : ℕ) → AsksForCache (option_map (λ word. word.now) size) capacity
+    ensures session { (capacity : ℕ) → AsksForCache (option_map (λ word. word.now) size.entry) capacity
         → IsSession (Y.holds system.old) (Y.failure system.old) (Y.failure system.new) files.now
         (record { bytes = R.rest streams.old.input; failures = R.failed streams.old.input }) (record { bytes = R.rest streams.new.input; failures = R.failed streams.new.input })
         (record { bytes = W.contents streams.old.output; failures = W.failed streams.old.output }) (record { bytes = W.contents streams.new.output; failures = W.failed streams.new.output }) result }
-    ensures size { HasNoCapacity (option_map (λ word. word.now) size)
+    ensures size { HasNoCapacity (option_map (λ word. word.now) size.entry)
         → (result ≡ Status.Usage) × (system.new ≡ system.old) × HasServedNothing streams.old streams.new }
     ensures unserved { result ≡ Status.Refused → HasServedNothing streams.old streams.new }
     ensures only { (streams.new.input ≡ streams.old.input)

@@ -65,6 +65,7 @@ const SWITCHED: &[u8] =
 const ASKED_AGAIN: &[u8] =
     b"LOAD\nAV u:r:b u:r:a file\nAV u:r:b u:r:a file\nSET bo true\nAV u:r:b u:r:a file\nAV u:r:a u:r:b file\n\
     SET bo false\nAV u:r:b u:r:a file\nSET bo true\nAV u:r:b u:r:a file\nLOAD\nAV u:r:b u:r:a file\n";
+
 const ANSWERED_AGAIN: &str =
     "OK 185 f4a020cc4c3fe5e43fe3a26cdd5a2c1da3123d58898808d6969102be7e958cd9\nOK - - open,read\nOK - - open,read\nOK\n\
     OK open - open,read\nOK read - open,read\nOK\nOK - - open,read\nOK\nOK open - open,read\n\
@@ -212,7 +213,13 @@ fn a_message_that_cannot_be_written_changes_no_status(rt: HostRuntime) {
         messages: Closed,
     };
     let mut system = FILLED;
-    let status = run_session(rt.alloc(), CAPACITY, &["bad.cil"], &mut system, &mut streams);
+    let status = run_session(
+        rt.alloc(),
+        CAPACITY,
+        &["bad.cil"],
+        &mut system,
+        &mut streams,
+    );
     assert!(rt; status == Status::Refused);
 }
 
