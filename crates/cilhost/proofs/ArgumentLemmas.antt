@@ -5,7 +5,7 @@ use Rattle.std.specs.List.{AllByRecursion, list_all}
 use Rattle.std.proofs.lemmas.List.{append-nil, append_assoc, length-append}
 use Rattle.std.proofs.lemmas.Bool.Decides.{eqb_tells, nat_tests}
 use Rattle.clap.specs.Lexer.{short_of, usize_max}
-use Rattle.clap.specs.Simple.{App, Shape, built, entered, built_leaf, filled, filled_from, help_rule, inherited, names_of, subcommand_of, with_index}
+use Rattle.clap.specs.Simple.{App, Shape, built, entered, built_leaf, filled, inherited, names_of, subcommand_of, with_index}
 use Rattle.clap.specs.Takes.{default_passes, entered_passes, is_valid, level_passes, settle_passes, takes, turn_passes, values_pass, walk_passes}
 use Rattle.clap.specs.Walk.{Held, Names, Row, Rule, Text, Walk, all_of, finished, first_of, nothing_held, reading_by, rows_after, walk, walk_from, walked}
 use Rattle.clap.specs.Walk.Waiting.{idle, option, positional}
