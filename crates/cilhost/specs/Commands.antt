@@ -3,7 +3,7 @@ use Rattle.std.specs.Prelude.{◌≡◌, ◌==◌, ℕ, List, true, false, not, 
 use Rattle.clap.specs.Lexer.{usize_max}
 use Rattle.clap.specs.Simple.{App, app_of, new_app, new_rule, on_top, with_rule, with_subcommand}
 use Rattle.clap.specs.Walk.{Rule}
-use Rattle.clap.specs.declared.builder.action.ArgAction.TheVariants.{Append, SetTrue}
+use Rattle.clap.specs.declared.builder.action.ArgAction.TheVariants.{Append, Set, SetTrue}
 use Rattle.clap.specs.declared.builder.command.Command.{Command}
 use Rattle.clap.specs.declared.builder.command.Command.TheViews.{out-Command}
 
@@ -19,8 +19,12 @@ file_rule least = record (new_rule (codes "FILE")) {
 abbrev pub over_files : List ℕ → ℕ → App
 over_files name least = with_rule (new_app name) (file_rule least)
 
+-- the option that says how many decisions the cache may hold
+abbrev pub cache_rule : Rule
+cache_rule = record (new_rule (codes "cache")) { long = Some (codes "cache"); action = Some Set; value_names = 1 }
+
 abbrev pub session : App
-session = over_files (codes "session") 0
+session = with_rule (over_files (codes "session") 0) cache_rule
 
 abbrev pub check : App
 check = over_files (codes "check") 1

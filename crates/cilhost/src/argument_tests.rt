@@ -12,6 +12,9 @@ fn has(text: &[u8], part: &str) -> bool {
     text.windows(part.len().max(1)).any(|window| window == part)
 }
 
+/// What is said of a word behind `--cache` that is no number from 1 to 65536.
+const NO_SIZE: &str = "' for '--cache <N>': not a number from 1 to 65536\n";
+
 /// Words that ask for nothing that there is, and a part of what is said of them.
 const WRONG: &[(&[&str], &str)] = &[
     (&[], "Usage: cilhost <COMMAND>"),
@@ -22,8 +25,25 @@ const WRONG: &[(&[&str], &str)] = &[
         "unexpected argument '--cache'",
     ),
     (
-        &["session", "--cache", "1"],
+        &["check", "--cache", "1", "good.cil"],
         "unexpected argument '--cache'",
+    ),
+    (&["session", "--cache", "0", "none.cil"], NO_SIZE),
+    (&["session", "--cache", "65537"], NO_SIZE),
+    (&["session", "--cache", "x"], NO_SIZE),
+    (&["session", "--cache", ""], NO_SIZE),
+    (&["session", "--cache", "01"], NO_SIZE),
+    (&["session", "--cache", "+1"], NO_SIZE),
+    (&["session", "--cache", "1 "], NO_SIZE),
+    (&["session", "--cache", "18446744073709551617"], NO_SIZE),
+    (&["session", "none.cil", "--cache=0"], NO_SIZE),
+    (
+        &["session", "--cache"],
+        "a value is required for '--cache <N>' but none was supplied",
+    ),
+    (
+        &["session", "--cache", "1", "--cache", "1"],
+        "the argument '--cache <N>' cannot be used multiple times",
     ),
     (&["session", "good.cil", "-x"], "unexpected argument '-x'"),
     (
@@ -65,7 +85,13 @@ const HELP: &[(&[&str], &str)] = &[
         "roleallow, constrain, allow, auditallow, dontaudit, neverallow, boolean and booleanif;",
     ),
     (&["help"], "Example:"),
-    (&["session", "-h"], "Usage: cilhost session [FILE]..."),
+    (
+        &["session", "-h"],
+        "Usage: cilhost session [OPTIONS] [FILE]...",
+    ),
+    (&["session", "-h"], "--cache <N>"),
+    (&["session", "--help"], "OK LENGTH DIGEST"),
+    (&["check", "--help"], "OK LENGTH DIGEST"),
     (&["session", "--help"], "AV source target class"),
     (
         &["session", "--help"],
@@ -106,6 +132,17 @@ fn help_that_was_asked_for_is_output(rt: HostRuntime) -> Result<(), Fail> {
 const SESSIONS: &[(&[&str], Status, &str)] = &[
     (&["session"], Status::Done, ""),
     (&["session", "good.cil"], Status::Done, ""),
+    (&["session", "--cache", "1"], Status::Done, ""),
+    (
+        &["session", "--cache", "65536", "good.cil"],
+        Status::Done,
+        "",
+    ),
+    (
+        &["session", "good.cil", "--cache=1", "none.cil"],
+        Status::Failed,
+        "cilhost: none.cil: failed\n",
+    ),
     (
         &["session", "good.cil", "bad.cil"],
         Status::Refused,
@@ -136,7 +173,12 @@ fn a_session_is_asked_for_by_its_name(rt: HostRuntime) -> Result<(), Fail> {
 
 /// Words that ask for a check, and the status, the output and the messages that it ends with.
 const CHECKS: &[(&[&str], Status, &str, &str)] = &[
-    (&["check", "good.cil"], Status::Done, "OK\n", ""),
+    (
+        &["check", "good.cil"],
+        Status::Done,
+        "OK 91 a37b83bc61c77fff1ba94eb4a2dc93e4991225f4ace976982a39845441df5a01\n",
+        "",
+    ),
     (
         &["check", "faulty.cil"],
         Status::Refused,

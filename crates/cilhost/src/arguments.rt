@@ -1,11 +1,11 @@
 //! The arguments of the program: their words, and what they ask for.
 
-ghost use Rattle.std.specs.Prelude.{◌≡◌, ◌⊎◌, ℕ, List, IfErr, IfOk, codes, false, map, string_bytes};
+ghost use Rattle.std.specs.Prelude.{◌≡◌, ◌⊎◌, ℕ, List, Option, IfErr, IfOk, codes, false, map, string_bytes};
 ghost use Rattle.clap.specs.Simple.{app_of};
 ghost use Rattle.clap.specs.Walk.{rule_of};
 ghost use Rattle.clap.specs.Words.{kind_of};
-ghost use Rattle.cilhost.specs.Arguments.{AreOf, AskForCheck, AskForSession};
-ghost use Rattle.cilhost.specs.Commands.{IsCommand, check, file_rule, locate, optionals_rule, program, session};
+ghost use Rattle.cilhost.specs.Arguments.{AreOf, AskForCheck, AskForSession, HasSize};
+ghost use Rattle.cilhost.specs.Commands.{IsCommand, cache_rule, check, file_rule, locate, optionals_rule, program, session};
 
 use crate::error::Error;
 use crate::help;
@@ -27,6 +27,9 @@ pub const LOCATE: &str = "locate";
 /// The name of its flag, which asks for the optionals that are left out too.
 pub const OPTIONALS: &str = "optionals";
 
+/// The name of the option of a session that says how many decisions its cache may hold.
+pub const CACHE: &str = "cache";
+
 /// The name of the files of a subcommand.
 pub const FILE: &str = "FILE";
 
@@ -41,9 +44,10 @@ pub fn words<R: Env + AllocGlobal>(rt: &R) -> Result<Vec<String>, Error<'static>
 
 /// What the words ask for. The error is clap's: words that it does not accept, out of memory, or a request for help or the version.
 pub fn matches<'a>(alloc: Global, words: &'a [String]) -> Result<ArgMatches<'a>, clap::Error>
-    ensures session { (files : List (List ℕ)) → AskForSession (map string_bytes words.now) files → IfOk result (AreOf (codes "session") files) }
+    ensures session { (size : Option (List ℕ)) (files : List (List ℕ)) → AskForSession (map string_bytes words.now) size files
+        → IfOk result (λ found. AreOf (codes "session") files found × HasSize size found) }
     ensures check { (files : List (List ℕ)) → AskForCheck (map string_bytes words.now) files → IfOk result (AreOf (codes "check") files) }
-    ensures accepts { (files : List (List ℕ)) → AskForSession (map string_bytes words.now) files ⊎ AskForCheck (map string_bytes words.now) files
+    ensures accepts { (size : Option (List ℕ)) (files : List (List ℕ)) → AskForSession (map string_bytes words.now) size files ⊎ AskForCheck (map string_bytes words.now) files
         → IfErr result (λ error. kind_of error ≡ ErrorKind.OutOfMemory) }
 {
     let program = program_command(alloc)?;
@@ -71,11 +75,12 @@ fn program_command<'a>(alloc: Global) -> Result<Command<'a>, AllocError>
 fn session_command<'a>(alloc: Global) -> Result<Command<'a>, AllocError>
     ensures { IfOk result (IsCommand session) }
 {
-    Command::new(alloc, SESSION)
+    let over_files = Command::new(alloc, SESSION)
         .about(help::SESSION)
         .long_about(help::SESSION_LONG)
         .after_long_help(help::REQUESTS)
-        .arg(file_argument(alloc, 0))
+        .arg(file_argument(alloc, 0))?;
+    over_files.arg(cache_argument(alloc))
 }
 
 fn check_command<'a>(alloc: Global) -> Result<Command<'a>, AllocError>
@@ -107,6 +112,17 @@ fn optionals_argument<'a>(alloc: Global) -> Arg<'a>
         .long(OPTIONALS)
         .action(ArgAction::SetTrue)
         .help(help::OPTIONALS)
+}
+
+fn cache_argument<'a>(alloc: Global) -> Arg<'a>
+    ensures rule { rule_of result ≡ cache_rule }
+    ensures local { result.global ≡ false }
+{
+    Arg::new(alloc, CACHE)
+        .long(CACHE)
+        .value_name("N")
+        .action(ArgAction::Set)
+        .help(help::CACHE)
 }
 
 /// The files of a subcommand, of which there are this many at least.

@@ -5,6 +5,7 @@ ghost use Rattle.cil_server.specs.Devices.{most_failures};
 ghost use Rattle.cilhost.specs.Checks.{HasFaults, IsCheck, load_status};
 ghost use Rattle.cilhost.specs.Reading.{HasFailed, HasRefused};
 
+use crate::capacity::CAPACITY;
 use crate::error::{Error, STREAMS};
 use crate::session::prepared;
 use crate::status::Status;
@@ -28,7 +29,7 @@ pub fn run_check<Y: System, W: Sink, E: Write>(
     ensures failed { result ≡ Status.Failed → HasFailed (Y.failure system.new) ⊎ (W.failed output.new ≡ W.failed output.old + 1) }
     ensures refused { result ≡ Status.Refused → HasRefused (Y.holds system.old) files.now ⊎ HasFaults (Y.holds system.old) files.now }
 {
-    match prepared(alloc, files, system) {
+    match prepared(alloc, CAPACITY, files, system) {
         Ok(mut host) => {
             let end = load(alloc, &mut host, output);
             status_after(end, messages)

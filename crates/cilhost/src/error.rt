@@ -1,6 +1,7 @@
 //! Why the program stops early, and the line that it then writes.
 
 use crate::status::Status;
+use cil_base::NoMemory;
 use cil_sexpr::{ReadError, ReadFault};
 use std::alloc::{AllocError, AllocFailed};
 use std::io::{self, ErrorKind, Write};
@@ -79,6 +80,17 @@ impl From<AllocError> for Error<'_> {
     ghost from_gives = { λ _ e. e ≡ NoMemory };
 
     fn from(_error: AllocError) -> Self {
+        Error::NoMemory
+    }
+}
+
+impl From<NoMemory> for Error<'_> {
+    ghost use Rattle.std.specs.Prelude.{◌≡◌};
+    ghost use Rattle.cilhost.specs.declared.error.Error.TheVariants.{NoMemory};
+
+    ghost from_gives = { λ _ e. e ≡ NoMemory };
+
+    fn from(_error: NoMemory) -> Self {
         Error::NoMemory
     }
 }

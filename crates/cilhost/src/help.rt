@@ -38,6 +38,9 @@ pub const SESSION_LONG: &str = "Installs files, then answers requests from stand
 The FILEs are installed from left to right. Then requests are read from standard input, one a line,
 and each reply is written to standard output, until QUIT or the end of the input.
 
+Decisions are kept for queries that come again: N of them at most, the latest ones. They take some
+600 bytes each. No reply depends on N. Another number than 1 to 65536 is a wrong argument.
+
 A FILE may have the statements type, class, common, classcommon, role, user, roletype, userrole,
 roleallow, constrain, allow, auditallow, dontaudit, neverallow, boolean and booleanif; block,
 blockabstract, blockinherit, macro, call and optional; typealias, typealiasactual, typeattribute,
@@ -54,14 +57,18 @@ are accepted and have no effect. LOAD refuses everything else in CIL by name, wi
 pub const FILE: &str = "A module, as text in CIL, of at most 4194304 bytes";
 
 /// What a check does, in one line.
-pub const CHECK: &str = "Installs files, loads them, and prints OK or the faults of the policy";
+pub const CHECK: &str =
+    "Installs files, loads them, and prints OK with a digest, or the faults of the policy";
 
 /// What a check does.
-pub const CHECK_LONG: &str = "Installs files, loads them, and prints OK or the faults of the policy.
+pub const CHECK_LONG: &str =
+    "Installs files, loads them, and prints OK with a digest, or the faults of the policy.
 
 The FILEs are installed from left to right, and then loaded together. Standard output has the reply
-of LOAD: OK, or FAULTS with how many there are, and a line for each. A FILE that cannot be read as
-CIL ends the check before that: standard error says which, and where. Standard input is not read.";
+of LOAD: OK LENGTH DIGEST, or FAULTS with how many there are, and a line for each. LENGTH and DIGEST
+are the length in bytes and the SHA-256 of the compiled policy: hosts with the same modules print
+the same line, in whatever order the modules came. A FILE that cannot be read as CIL ends the check
+before that: standard error says which, and where. Standard input is not read.";
 
 /// What a check prints, an example and the exit statuses.
 pub const CHECK_MORE: &str =
@@ -71,7 +78,7 @@ pub const CHECK_MORE: &str =
 
 Example:
   $ cilhost check base.cil app.cil
-  OK
+  OK 159 d45931ea9f06a9ced7e809682adb159f8b38c8e71f6a219ba0a5eab997e73225
 
 Exit status:
   0  the policy is accepted
@@ -97,6 +104,10 @@ the same form, and then nothing is loaded. Standard input is not read.";
 /// What the flag `--optionals` asks for.
 pub const OPTIONALS: &str = "If there is no fault, say which optionals are left out, and why";
 
+/// What the option `--cache` asks for.
+pub const CACHE: &str =
+    "How many decisions to keep for queries that come again, from 1 to 65536 [default: 512]";
+
 /// An example of `locate` and the exit statuses.
 pub const LOCATE_MORE: &str = "Example:
   $ cilhost locate base.cil web.cil
@@ -119,8 +130,10 @@ pub const REQUESTS: &str = "Requests:
   INSTALL n               Install a module: the n bytes after this line. Reply: OK new, OK known,
                           or ERR with the number of the fault and its place in bytes
   LOAD                    Compile the installed modules, and answer from them from now on. Reply:
-                          OK, or FAULTS with how many there are, and a line for each. After FAULTS
-                          the policy is the one that was loaded before
+                          OK LENGTH DIGEST, or FAULTS with how many there are, and a line for each.
+                          LENGTH and DIGEST are the length in bytes and the SHA-256 of the compiled
+                          policy: hosts with the same modules print the same line. After FAULTS the
+                          policy is the one that was loaded before
   AV source target class  What a process in the context source may do to an object of this class
                           in the context target. A context is user:role:type, where a type t of
                           block b is b.t, and an alias stands for its type. With (mls true) in the
@@ -220,7 +233,7 @@ Other numbers, after ERR:
 
 Example:
   $ printf 'LOAD\\nAV u:r:a u:r:b file\\nQUIT\\n' | cilhost session base.cil app.cil
-  OK
+  OK 159 d45931ea9f06a9ced7e809682adb159f8b38c8e71f6a219ba0a5eab997e73225
   OK read - open,read
   OK
 

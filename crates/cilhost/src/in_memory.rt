@@ -1,8 +1,9 @@
 //! Files, streams and whole runs in memory, for the tests.
 
-ghost use Rattle.std.specs.Prelude.{◌≡◌, Some, find, option_map};
+ghost use Rattle.std.specs.Prelude.{◌≡◌, ◌≤◌, Some, find, option_map};
 ghost use Rattle.std.specs.Str.{bytes_eq};
 
+use crate::capacity::CAPACITY;
 use crate::check::run_check;
 use crate::locate::run_locate;
 use crate::program::{Streams, run};
@@ -11,6 +12,7 @@ use crate::status::Status;
 use crate::system::{System, note, start_of};
 use cil_server::Counted;
 use std::alloc::{AllocError, Global};
+use std::hash::{BuildHasherDefault, DefaultHasher};
 use std::io::{self, ErrorKind, Read, Write};
 
 /// A reader in memory, which may fail where its bytes end.
@@ -44,7 +46,7 @@ impl System for MemorySystem<'_> {
 
     ghost failure = { λ s. s.failure };
 
-    type Hasher = u8;
+    type Hasher = BuildHasherDefault<DefaultHasher>;
 
     fn read(&mut self, alloc: Global, name: &str, limit: u64) -> io::Result<Vec<u8>> {
         let text = match file_named(self.files, name) {
@@ -62,10 +64,10 @@ impl System for MemorySystem<'_> {
         text
     }
 
-    fn hasher(&mut self) -> io::Result<u8> {
+    fn hasher(&mut self) -> io::Result<BuildHasherDefault<DefaultHasher>> {
         let hasher = match self.no_hasher {
             Some(kind) => Err(io::Error::from(kind)),
-            None => Ok(0),
+            None => Ok(BuildHasherDefault::new()),
         };
         note(&mut self.failure, &hasher);
         hasher
@@ -145,14 +147,28 @@ fn what_is_left(
     }
 }
 
-/// A session over files and an input in memory.
-pub fn session(alloc: Global, mut system: MemorySystem<'_>, files: &[&str], input: &[u8]) -> Left {
+/// A session over files and an input in memory, with a cache of the usual size.
+pub fn session(alloc: Global, system: MemorySystem<'_>, files: &[&str], input: &[u8]) -> Left {
+    cached_session(alloc, CAPACITY, system, files, input)
+}
+
+/// A session whose cache may hold so many decisions.
+pub fn cached_session(
+    alloc: Global,
+    capacity: usize,
+    mut system: MemorySystem<'_>,
+    files: &[&str],
+    input: &[u8],
+) -> Left
+    requires least { 1 ≤ capacity }
+    requires most { capacity ≤ 65536 }
+{
     let mut streams = Streams {
         input: Counted::new(input),
         output: Counted::new(Vec::new(alloc)),
         messages: Vec::new(alloc),
     };
-    let status = run_session(alloc, files, &mut system, &mut streams);
+    let status = run_session(alloc, capacity, files, &mut system, &mut streams);
     what_is_left(status, streams)
 }
 

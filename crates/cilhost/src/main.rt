@@ -8,6 +8,7 @@
 #[cfg(test)]
 mod argument_tests;
 mod arguments;
+mod capacity;
 mod check;
 mod error;
 mod help;

@@ -1,16 +1,17 @@
 //! The program over its words and its streams.
 
-ghost use Rattle.std.specs.Prelude.{◌≡◌, ◌≢◌, ◌⊎◌, ◌<◌, ℕ, Bool, List, IfErr, map, string_bytes};
+ghost use Rattle.std.specs.Prelude.{◌≡◌, ◌≢◌, ◌⊎◌, ◌<◌, ℕ, Bool, List, Option, IfErr, map, option_map, string_bytes};
 ghost use Rattle.clap.specs.Words.{kind_of};
 ghost use Rattle.cil_server.specs.Devices.{most_failures};
-ghost use Rattle.cilhost.specs.Arguments.{AskForCheck, AskForSession};
+ghost use Rattle.cilhost.specs.Arguments.{AskForCheck, AskForSession, AsksForCache, HasNoCapacity};
 ghost use Rattle.cilhost.specs.Checks.{HasChecked, RunsCheck};
 ghost use Rattle.cilhost.specs.Ends.{HasServedNothing, answer_to, error_status};
 ghost use Rattle.cilhost.specs.Located.{HasLocated};
 ghost use Rattle.cilhost.specs.Sessions.{IsSession, RunsSession};
 ghost use Rattle.std.specs.Borrow.{Bor};
 
-use crate::arguments::{CHECK, FILE, LOCATE, OPTIONALS, SESSION, matches};
+use crate::arguments::{CACHE, CHECK, FILE, LOCATE, OPTIONALS, SESSION, matches};
+use crate::capacity::{capacity_of, refuse};
 use crate::check::run_check;
 use crate::error::{Error, STREAMS};
 use crate::locate::run_locate;
@@ -42,11 +43,14 @@ pub fn run<Y: System, R: Source, W: Sink, E: Write>(
 ) -> Status
     requires reader { R.failed streams.old.input < most_failures }
     requires writer { W.failed streams.old.output < most_failures }
-    // A session that is asked for by its name, over files whose names do not begin with `-`.
-    ensures session { (names : List (List ℕ)) → AskForSession (map string_bytes words.now) names
+    // A session that is asked for by its name, with or without a number behind `--cache`, over files whose names do not begin with `-`.
+    ensures session { (size : Option (List ℕ)) (capacity : ℕ) (names : List (List ℕ)) → AskForSession (map string_bytes words.now) size names → AsksForCache size capacity
         → RunsSession (Y.holds system.old) (Y.failure system.old) (Y.failure system.new) names
         (record { bytes = R.rest streams.old.input; failures = R.failed streams.old.input }) (record { bytes = R.rest streams.new.input; failures = R.failed streams.new.input })
         (record { bytes = W.contents streams.old.output; failures = W.failed streams.old.output }) (record { bytes = W.contents streams.new.output; failures = W.failed streams.new.output }) result }
+    // One that is asked for with another word behind `--cache`: nothing is read or written.
+    ensures size { (size : Option (List ℕ)) (names : List (List ℕ)) → AskForSession (map string_bytes words.now) size names → HasNoCapacity size
+        → ((result ≡ Status.Usage) ⊎ (result ≡ Status.NoMemory)) × (system.new ≡ system.old) × HasServedNothing streams.old streams.new }
     // A check that is asked for by its name, over such files.
     ensures check { (names : List (List ℕ)) → AskForCheck (map string_bytes words.now) names
         → RunsCheck (Y.holds system.old) (Y.failure system.old) (Y.failure system.new) names streams.old.output streams.new.output
@@ -73,7 +77,7 @@ pub fn run<Y: System, R: Source, W: Sink, E: Write>(
     };
     let files = arguments.get_strs(FILE).unwrap_or(&[]);
     if name == SESSION {
-        return run_session(alloc, files, system, streams);
+        return sized_session(alloc, arguments.get_str(CACHE), files, system, streams);
     }
     if name == CHECK {
         return run_check(
@@ -96,6 +100,34 @@ pub fn run<Y: System, R: Source, W: Sink, E: Write>(
         );
     }
     Status::Usage
+}
+
+/// A session with the word behind `--cache`, where there is one. Returns the status to end with.
+fn sized_session<Y: System, R: Source, W: Sink, E: Write>(
+    alloc: Global,
+    size: Option<&str>,
+    files: &[&str],
+    system: &mut Y,
+    streams: &mut Streams<R, W, E>,
+) -> Status
+    requires reader { R.failed streams.old.input < most_failures }
+    requires writer { W.failed streams.old.output < most_failures }
+    ensures session { (capacity : ℕ) → AsksForCache (option_map (λ word. word.now) size.entry) capacity
+        → IsSession (Y.holds system.old) (Y.failure system.old) (Y.failure system.new) files.now
+        (record { bytes = R.rest streams.old.input; failures = R.failed streams.old.input }) (record { bytes = R.rest streams.new.input; failures = R.failed streams.new.input })
+        (record { bytes = W.contents streams.old.output; failures = W.failed streams.old.output }) (record { bytes = W.contents streams.new.output; failures = W.failed streams.new.output }) result }
+    ensures size { HasNoCapacity (option_map (λ word. word.now) size.entry)
+        → (result ≡ Status.Usage) × (system.new ≡ system.old) × HasServedNothing streams.old streams.new }
+    ensures unserved { result ≡ Status.Refused → HasServedNothing streams.old streams.new }
+    ensures only { (streams.new.input ≡ streams.old.input)
+        ⊎ IsSession (Y.holds system.old) (Y.failure system.old) (Y.failure system.new) files.now
+        (record { bytes = R.rest streams.old.input; failures = R.failed streams.old.input }) (record { bytes = R.rest streams.new.input; failures = R.failed streams.new.input })
+        (record { bytes = W.contents streams.old.output; failures = W.failed streams.old.output }) (record { bytes = W.contents streams.new.output; failures = W.failed streams.new.output }) result }
+{
+    match capacity_of(size) {
+        Some(capacity) => run_session(alloc, capacity, files, system, streams),
+        None => refuse(size, &mut streams.messages),
+    }
 }
 
 /// Prints the help or the version that was asked for, or what is wrong with the words.

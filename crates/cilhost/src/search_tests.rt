@@ -8,18 +8,23 @@ use cil_server::Counted;
 /// The reply of LOAD to `faulty.cil` alone, as docs/FAULTS.md has it.
 const FAULTY: &str = "FAULTS 1\n41 0 20 . a\n";
 
+/// The reply of LOAD to `good.cil`, and to both files, by the model of `model/`.
+const GOOD: &str = "OK 91 a37b83bc61c77fff1ba94eb4a2dc93e4991225f4ace976982a39845441df5a01\n";
+
+const BOTH: &str = "OK 100 b9ebdedf0b19acbcce8caa07442c9339be66e78577d0da721bb451efb867b6f7\n";
+
 /// Files, and the status, the output and the messages of a check of them.
 const CHECKED: &[(&[&str], Status, &str, &str)] = &[
-    (&["good.cil"], Status::Done, "OK\n", ""),
+    (&["good.cil"], Status::Done, GOOD, ""),
     (
         &["good.cil", "empty.cil", "good.cil"],
         Status::Done,
-        "OK\n",
+        GOOD,
         "",
     ),
     (&["faulty.cil"], Status::Refused, FAULTY, ""),
-    (&["faulty.cil", "good.cil"], Status::Done, "OK\n", ""),
-    (&["good.cil", "faulty.cil"], Status::Done, "OK\n", ""),
+    (&["faulty.cil", "good.cil"], Status::Done, BOTH, ""),
+    (&["good.cil", "faulty.cil"], Status::Done, BOTH, ""),
     (
         &["faulty.cil", "bad.cil"],
         Status::Refused,

@@ -1,6 +1,6 @@
 //! The subcommand `session`: a host that is given files, and then serves requests.
 
-ghost use Rattle.std.specs.Prelude.{◌≡◌, ◌<◌, ◌+◌, ◌⊎◌, ℕ, [], None, IfErr, IfOk, OnErr, OnOk};
+ghost use Rattle.std.specs.Prelude.{◌≡◌, ◌<◌, ◌≤◌, ◌+◌, ◌⊎◌, ℕ, [], None, IfErr, IfOk, OnErr, OnOk};
 ghost use Rattle.cil_modset.specs.Modules.{AreModules};
 ghost use Rattle.cil_server.specs.Devices.{most_failures};
 ghost use Rattle.cilhost.specs.Ends.{HasServedNothing, status_of};
@@ -15,23 +15,24 @@ use cil_host::Host;
 use cil_server::{Served, Sink, Source, serve};
 use cil_sexpr::LONGEST_TEXT;
 use std::alloc::Global;
+use std::hash::BuildHasher;
 use std::io::Write;
-
-/// The capacity of the host's cache of decisions, which it does not keep yet.
-const CAPACITY: usize = 512;
 
 /// How many bytes of a file are read: one more than a module may have, so that the host refuses a longer one.
 pub(crate) const LONGEST: u64 = LONGEST_TEXT as u64 + 1;
 
 /// Installs the files from the left, each read and installed before the next, and then serves the requests of
-/// the input on the output. A file that is refused, or cannot be opened or read, ends the session before anything is served.
-/// Returns the status to end with.
+/// the input on the output. The host's cache may hold `capacity` decisions, from 1 to 65,536. A file that is refused, or cannot be
+/// opened or read, ends the session before anything is served. Returns the status to end with.
 pub fn run_session<Y: System, R: Source, W: Sink, E: Write>(
     alloc: Global,
+    capacity: usize,
     files: &[&str],
     system: &mut Y,
     streams: &mut Streams<R, W, E>,
 ) -> Status
+    requires least { 1 ≤ capacity }
+    requires most { capacity ≤ 65536 }
     requires reader { R.failed streams.old.input < most_failures }
     requires writer { W.failed streams.old.output < most_failures }
     ensures session { IsSession (Y.holds system.old) (Y.failure system.old) (Y.failure system.new) files.now
@@ -42,7 +43,7 @@ pub fn run_session<Y: System, R: Source, W: Sink, E: Write>(
     ensures refused { result ≡ Status.Refused → HasRefused (Y.holds system.old) files.now }
     ensures unserved { result ≡ Status.Refused → HasServedNothing streams.old streams.new }
 {
-    match prepared(alloc, files, system) {
+    match prepared(alloc, capacity, files, system) {
         Ok(mut host) => {
             let served = serve(alloc, &mut host, &mut streams.input, &mut streams.output);
             end(served, &mut streams.messages)
@@ -51,27 +52,31 @@ pub fn run_session<Y: System, R: Source, W: Sink, E: Write>(
     }
 }
 
-/// A host with just the files, and no policy yet.
+/// A host with just the files, no policy yet, and an empty cache for `capacity` decisions, from 1 to 65,536.
 pub fn prepared<'a, Y: System>(
     alloc: Global,
+    capacity: usize,
     files: &[&'a str],
     system: &mut Y,
 ) -> Result<Host<Y::Hasher>, Error<'a>>
+    requires least { 1 ≤ capacity }
+    requires most { capacity ≤ 65536 }
     ensures installed { IfOk result (λ host. HasJust (Y.holds system.old) files.now host.modules) }
     ensures no_policy { IfOk result (λ host. host.loaded ≡ None) }
     ensures sound { OnOk result (Y.failure system.new ≡ Y.failure system.old) }
     ensures due { IfErr result (IsDue (Y.holds system.old) (Y.failure system.old) (Y.failure system.new) files.now) }
 {
-    let mut host = match system.hasher() {
-        Ok(hasher) => Host::new(alloc, CAPACITY, hasher),
+    let hasher = match system.hasher() {
+        Ok(hasher) => hasher,
         Err(error) => return Err(Error::failed(STREAMS, error)),
     };
+    let mut host = Host::new(alloc, capacity, hasher)?;
     install_all(alloc, &mut host, system, files)?;
     Ok(host)
 }
 
 /// Installs the files from the left on a host without modules, each read and installed before the next. The host then has just these.
-fn install_all<'a, S: Drop, Y: System>(
+fn install_all<'a, S: BuildHasher + Drop, Y: System>(
     alloc: Global,
     host: &mut Host<S>,
     system: &mut Y,
@@ -91,7 +96,7 @@ fn install_all<'a, S: Drop, Y: System>(
 }
 
 /// Reads a file and installs it.
-fn install<'a, S: Drop, Y: System>(
+fn install<'a, S: BuildHasher + Drop, Y: System>(
     alloc: Global,
     host: &mut Host<S>,
     system: &mut Y,

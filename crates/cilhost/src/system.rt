@@ -6,12 +6,12 @@ ghost use Rattle.cilhost.specs.Reading.{Failure, Known};
 
 use std::alloc::Global;
 use std::fs;
-use std::hash::RandomState;
+use std::hash::{BuildHasher, RandomState};
 use std::io::{self, ErrorKind, Read};
 use std::random::RandomSource;
 use std::rt::Files;
 
-/// What a session needs of the system: files by their names, and what the host hashes with.
+/// What a session needs of the system: files by their names, and what the host's cache hashes with.
 pub trait System {
     /// The bytes of the file of this name, where they are known.
     ghost holds: { Self → List ℕ → Known } = { λ _ _. None };
@@ -19,8 +19,8 @@ pub trait System {
     /// The kind of the error of the last call that failed.
     ghost failure: { Self → Failure };
 
-    /// What the host hashes with.
-    type Hasher: Drop;
+    /// What the host's cache of decisions hashes with.
+    type Hasher: BuildHasher + Drop;
 
     /// Reads a file: its first bytes up to a limit, or all of them.
     fn read(&mut self, alloc: Global, name: &str, limit: u64) -> io::Result<Vec<u8>>
@@ -29,7 +29,7 @@ pub trait System {
         ensures sound { OnOk result (failure self.new ≡ failure self.old) }
         ensures failed { IfErr result (λ error. failure self.new ≡ Some (error_kind error)) };
 
-    /// Makes what the host hashes with.
+    /// Makes what the host's cache hashes with.
     fn hasher(&mut self) -> io::Result<Self::Hasher>
         ensures stays { holds self.new ≡ holds self.old }
         ensures sound { OnOk result (failure self.new ≡ failure self.old) }
@@ -37,7 +37,7 @@ pub trait System {
 }
 
 /// The machine that the program runs on: its files, and a hasher with random keys, so that nobody can choose
-/// queries that all fall into one place of the cache that the host is to keep.
+/// queries that all fall into one place of the host's cache.
 #[derive(Drop)]
 pub struct Machine<'a, R> {
     rt: &'a R,

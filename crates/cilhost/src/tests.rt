@@ -1,6 +1,9 @@
 //! The program over files and streams in memory, and over the machine.
 
-use crate::in_memory::{Closed, FILLED, MemoryReader, MemorySystem, session};
+ghost use Rattle.std.specs.Prelude.{◌≤◌};
+
+use crate::capacity::CAPACITY;
+use crate::in_memory::{Closed, FILLED, MemoryReader, MemorySystem, cached_session, session};
 use crate::program::Streams;
 use crate::session::{end, run_session};
 use crate::status::Status;
@@ -21,21 +24,21 @@ const WORKED: &[(&[&str], &[u8], Status, &str, &str)] = &[
         b"INSTALL 123\n(class file (open read))(user u)(role r)(type a)(type b)(userrole u r)(roletype r a)(roletype r b)(allow a b (file (read)))\
         LOAD\nAV u:r:a u:r:b file\nQUIT\n",
         Status::Done,
-        "OK new\nOK\nOK read - open,read\nOK\n",
+        "OK new\nOK 159 d45931ea9f06a9ced7e809682adb159f8b38c8e71f6a219ba0a5eab997e73225\nOK read - open,read\nOK\n",
         "",
     ),
     (
         &["first.cil"],
         b"LOAD\nAV u:r:a u:r:b file\n",
         Status::Done,
-        "OK\nOK read - open,read\n",
+        "OK 159 d45931ea9f06a9ced7e809682adb159f8b38c8e71f6a219ba0a5eab997e73225\nOK read - open,read\n",
         "",
     ),
     (
         &[],
         b"AV u:r:a u:r:a file\nLOAD\nAV u:r:a u:r:a file\n",
         Status::Done,
-        "ERR 71\nOK\nERR 72 1\n",
+        "ERR 71\nOK 86 077bf34cffcc8078b3391eebf0d4fa8a755e355d5f86554603a8350c72314d99\nERR 72 1\n",
         "",
     ),
     (&[], b"INSTALL 10\n(typ", Status::Usage, "ERR 83\n", ""),
@@ -51,6 +54,45 @@ fn sessions_answer_as_worked(rt: HostRuntime) {
         let left = session(rt.alloc(), system, names, input);
         assert!(rt; left.is(status, output, messages), "{output:?}");
     }
+}
+
+/// The first policy, and a boolean that turns a rule on: 188 bytes.
+const SWITCHED: &[u8] =
+    b"(class file (open read))(user u)(role r)(type a)(type b)(userrole u r)(roletype r a)(roletype r b)(allow a b (file (read)))\
+    (boolean bo false)(booleanif bo (true (allow b a (file (open)))))";
+
+/// Queries that come again, while the boolean is turned and after a load, and their replies.
+const ASKED_AGAIN: &[u8] =
+    b"LOAD\nAV u:r:b u:r:a file\nAV u:r:b u:r:a file\nSET bo true\nAV u:r:b u:r:a file\nAV u:r:a u:r:b file\n\
+    SET bo false\nAV u:r:b u:r:a file\nSET bo true\nAV u:r:b u:r:a file\nLOAD\nAV u:r:b u:r:a file\n";
+
+const ANSWERED_AGAIN: &str =
+    "OK 185 f4a020cc4c3fe5e43fe3a26cdd5a2c1da3123d58898808d6969102be7e958cd9\nOK - - open,read\nOK - - open,read\nOK\n\
+    OK open - open,read\nOK read - open,read\nOK\nOK - - open,read\nOK\nOK open - open,read\n\
+    OK 185 f4a020cc4c3fe5e43fe3a26cdd5a2c1da3123d58898808d6969102be7e958cd9\nOK - - open,read\n";
+
+/// Whether they are replied to so with a cache of this size.
+fn answers_again(alloc: Global, capacity: usize) -> bool
+    requires least { 1 ≤ capacity }
+    requires most { capacity ≤ 65536 }
+{
+    let system = MemorySystem {
+        files: &[("switched.cil", SWITCHED, None)],
+        ..FILLED
+    };
+    cached_session(alloc, capacity, system, &["switched.cil"], ASKED_AGAIN).is(
+        Status::Done,
+        ANSWERED_AGAIN,
+        "",
+    )
+}
+
+#[test]
+fn a_cache_of_any_size_changes_no_answer(rt: HostRuntime) {
+    assert!(rt; answers_again(rt.alloc(), 1));
+    assert!(rt; answers_again(rt.alloc(), 2));
+    assert!(rt; answers_again(rt.alloc(), CAPACITY));
+    assert!(rt; answers_again(rt.alloc(), 65_536));
 }
 
 /// Files, and the status and the messages that they end with.
@@ -171,7 +213,13 @@ fn a_message_that_cannot_be_written_changes_no_status(rt: HostRuntime) {
         messages: Closed,
     };
     let mut system = FILLED;
-    let status = run_session(rt.alloc(), &["bad.cil"], &mut system, &mut streams);
+    let status = run_session(
+        rt.alloc(),
+        CAPACITY,
+        &["bad.cil"],
+        &mut system,
+        &mut streams,
+    );
     assert!(rt; status == Status::Refused);
 }
 
@@ -184,7 +232,7 @@ fn the_machine_has_no_such_file(rt: HostRuntime) {
     };
     let mut machine = Machine::new(&rt);
     let files = ["there/is/none.cil"];
-    let status = run_session(rt.alloc(), &files, &mut machine, &mut streams);
+    let status = run_session(rt.alloc(), CAPACITY, &files, &mut machine, &mut streams);
     assert!(rt; status == Status::Failed);
     assert!(rt; streams.messages.as_slice() == b"cilhost: there/is/none.cil: failed\n".as_slice());
 }
@@ -200,7 +248,7 @@ fn an_input_that_fails_ends_the_session(rt: HostRuntime) {
         messages: Vec::new(rt.alloc()),
     };
     let mut system = FILLED;
-    let status = run_session(rt.alloc(), &[], &mut system, &mut streams);
+    let status = run_session(rt.alloc(), CAPACITY, &[], &mut system, &mut streams);
     assert!(rt; status == Status::Failed);
     assert!(rt; streams.messages.as_slice() == b"cilhost: -: failed\n".as_slice());
 }
@@ -213,7 +261,7 @@ fn an_output_that_fails_ends_the_session(rt: HostRuntime) {
         messages: Vec::new(rt.alloc()),
     };
     let mut system = FILLED;
-    let status = run_session(rt.alloc(), &[], &mut system, &mut streams);
+    let status = run_session(rt.alloc(), CAPACITY, &[], &mut system, &mut streams);
     assert!(rt; status == Status::Failed);
     assert!(rt; streams.messages.as_slice() == b"cilhost: -: failed\n".as_slice());
 }
