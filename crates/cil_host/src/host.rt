@@ -55,11 +55,9 @@ fn policy_of(alloc: Global, modules: &ModuleSet) -> Result<(Policy, Loaded), Fai
     let compiled = compile(alloc, modules)?;
     let told = measure(alloc, &compiled.tables)?;
     let modules = modules.try_clone(alloc)?;
-    let loaded = Loaded {
-        length: told.length,
-        digest: told.digest,
-    };
-    Ok((Policy { compiled, modules }, loaded))
+    let length = told.length;
+    let digest = told.digest;
+    Ok((Policy { compiled, modules }, Loaded { length, digest }))
 }
 
 /// A host. In contracts it is its modules, and the modules of its last accepted load with the reasons why optionals of theirs are
