@@ -56,9 +56,10 @@ impl Running {
     fn finish(self) -> Measured
         ensures { (bytes : List ℕ) → Holds256 self.hasher bytes → self.length ≡ length bytes → result ≡ measured bytes }
     {
+        let digest = self.hasher.finalize();
         Measured {
             length: self.length,
-            digest: self.hasher.finalize(),
+            digest,
         }
     }
 }
