@@ -1,5 +1,5 @@
 -- Records that are put one behind the other.
-use Rattle.std.proofs.Common.{◌≡◌, ℕ, ◌+◌, ◌<◌, ◌≤◌, List, [], ◌∷◌, ◌++◌, length, take, get_or, sym, ap, ◌∙◌, append_assoc}
+use Rattle.std.proofs.Common.{◌≡◌, ℕ, ◌+◌, ◌<◌, ◌≤◌, List, [], ◌∷◌, ◌++◌, length, take, get_or, sym, ap, ◌∙◌}
 use Rattle.std.specs.List.{flat_map}
 use Rattle.std.proofs.lemmas.List.{flat_map_more, take_all, take_more}
 
@@ -14,7 +14,3 @@ module _ {X : Type 0} (spell : X → List ℕ) (xs : List X) (i : ℕ) (base : L
   -- all were put
   pub last_put : (new : List ℕ) → length xs ≤ i → new ≡ base ++ flat_map spell (take i xs) → new ≡ base ++ flat_map spell xs
   last_put new le so = so ∙ ap (λ (ys : List X). base ++ flat_map spell ys) (take_all i xs le)
-
--- a count was put, and then these
-pub behind_count : (count body base mid new : List ℕ) → mid ≡ base ++ count → new ≡ mid ++ body → new ≡ base ++ (count ++ body)
-behind_count count body base mid new a b = b ∙ ap (λ (w : List ℕ). w ++ body) a ∙ append_assoc base count body

@@ -14,7 +14,7 @@ use Rattle.cil_conditions.specs.Order.{number_of, tag_of, token_cmp}
 use Rattle.cil_conditions.specs.Truth.{AreOperands, wanted_behind}
 use Rattle.cil_conditions.proofs.OrderLemmas.{one_token}
 use Rattle.cil_format.proofs.Orders.{order16}
-use Rattle.cil_rule_bytes.specs.Spelled.{number_bytes, token_bytes, tokens_bytes}
+use Rattle.cil_rule_bytes.specs.Layout.{number_bytes, token_bytes, tokens_bytes}
 use Rattle.cil_rule_bytes.proofs.SpellLemmas.{IsSmall}
 
 pub then_assoc : (a b c : Ordering) → ordering_then (ordering_then a b) c ≡ ordering_then a (ordering_then b c)
