@@ -45,7 +45,7 @@ returns-clause-session g c = λ size capacity names asks is.
 pub returns-in-Err-clause-size : goal.returns-in-Err-clause-size
 returns-in-Err-clause-size g c = λ size names asks wrong.
     let memory = c.in-Err.ensures.accepts size names (inl asks) in
-    (inr (memory_status _ _ memory c.answer.ensures.status), refl, c.answer.ensures.unread, c.answer.ensures.unwritten (memory_is_no_help _ memory))
+    (inr (memory_status _ _ memory c.answer.ensures.status), refl, (c.answer.ensures.unread, c.answer.ensures.unwritten (memory_is_no_help _ memory)))
 
 pub returns-in_default-clause-size : goal.returns-in_default-clause-size
 returns-in_default-clause-size g c = λ size names asks wrong.
