@@ -18,5 +18,5 @@ pub returns : goal.returns
 returns g c = λ before h.
     let all = links_from 0 c.rows-rows.result.now in
     let count = to_be_bytes w32 (length all) in
-    two_pieces g.O.Out.holds c.loop-holder.out before count (links_bytes all) ((links 0 0).spell c.args.links.now) (ap (links 0 0).spell (sym c.rows-rows.ensures))
+    two_pieces g.O.Out.holds c.loop-holder.out before count (links_bytes all) ((links 0 0).spell c.args.links.now) (ap (links 0 0).spell (sym c.rows-rows.ensures.links))
     (rows_put g.O.Out.holds c.rows-rows.result.now (before ++ count) c.loop-holder.holder c.loop-holder.out c.loop-holder-test.false (c.loop-holder.invariant before h))
