@@ -2,7 +2,7 @@ use Rattle.cil_avc.proofs.TrueCache.{true_flushed, true_resized}
 use Rattle.cil_tests.proofs.caching.keeps.Goals as goal
 
 pub lookup-opens-requires : goal.lookup-opens-requires
-lookup-opens-requires g c = true_flushed _ _ _ _ c.in-Ok.ensures
+lookup-opens-requires c = true_flushed _ _ _ _ c.in-Ok.ensures
 
 pub lookup-opens_again-requires : goal.lookup-opens_again-requires
-lookup-opens_again-requires g c = true_resized _ _ _ _ _ c.lookup-reads.ensures.is_true c.resize.ensures
+lookup-opens_again-requires c = true_resized _ _ _ _ _ c.lookup-reads.ensures.is_true c.resize.ensures
