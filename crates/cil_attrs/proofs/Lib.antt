@@ -21,3 +21,5 @@ pub mod ToldLemmas
 pub mod ValueLemmas
 pub mod ValueWithinLemmas
 pub mod WholeLemmas
+pub use Rattle.cil_known.proofs as known_lemmas
+pub use Rattle.cil_names.proofs as names_lemmas

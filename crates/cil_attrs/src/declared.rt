@@ -11,8 +11,8 @@ ghost use Rattle.cil_names.specs.Entries.{AreEntries, is_in};
 ghost use Rattle.cil_attrs.specs.Targets.{IsToldAt, IsToldIn};
 
 use cil_base::NoMemory;
-use cil_blocks::spelled::spelled;
 use cil_macros::Instances;
+use cil_macros::blocks::spelled::spelled;
 use cil_names::Lookup;
 use cil_syntax::{DeclaredName, Fault, FaultCode, Keyword, Kind, Sign, push_fault_in};
 use std::alloc::Global;

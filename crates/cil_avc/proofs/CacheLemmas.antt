@@ -9,7 +9,7 @@ use Rattle.cil_avc.specs.declared.key.Key.{Key}
 use Rattle.cil_avc.specs.contracts.key.KeyPartialEq.TheImpl as key_impl
 use Rattle.cil_avc.specs.Cache.{Entries, IsAnswer, IsTrueFor, HasNone, Parts, here, there, Uses, known, fresh, no_memory}
 use Rattle.cil_decide.specs.declared.decision.Decision.{Decision}
-use Rattle.cil_tables.specs.Table.{Table}
+use Rattle.cil_decide.specs.tables.Table.{Table}
 use Rattle.cil_avc.proofs.Keys.{key_one, key_same}
 
 abbrev pub same : Key → Key → Bool

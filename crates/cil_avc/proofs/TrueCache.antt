@@ -3,7 +3,7 @@ use Rattle.std.proofs.Common.{◌≡◌, ℕ, Bool, [], take, sym, subst}
 use Rattle.lru.proofs.CallerLemmas.{Contains-take}
 use Rattle.lru.proofs.Splits.{Contains-nil}
 use Rattle.cil_avc.specs.Cache.{Entries, IsTrueFor}
-use Rattle.cil_tables.specs.Table.{Table}
+use Rattle.cil_decide.specs.tables.Table.{Table}
 
 -- an empty cache is true for any tables and settings
 pub true_empty : (t : Table) (on : ℕ → Bool) → IsTrueFor t on []

@@ -3,7 +3,7 @@ use Rattle.std.specs.Prelude.{◌≡◌, ℕ, ◌-◌, Bool, List, ◌∷◌, ta
 use Rattle.cil_avc.specs.declared.key.Key.{Key}
 use Rattle.cil_decide.specs.declared.decision.Decision.{Decision}
 use Rattle.cil_decide.specs.Decides.{Decided}
-use Rattle.cil_tables.specs.Table.{Table}
+use Rattle.cil_decide.specs.tables.Table.{Table}
 
 -- what is in a cache, the last used first, and how many entries it may hold
 pub record Entries : Type 0 where

@@ -11,4 +11,5 @@ mod cache;
 mod key;
 
 pub use cache::Avc;
+pub use cil_decide as decide;
 pub use key::Key;

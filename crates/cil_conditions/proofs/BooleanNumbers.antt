@@ -5,7 +5,7 @@ use Rattle.cil_base.specs.Lists.{text_cmp}
 use Rattle.cil_base.proofs.NameSearches.{number_is}
 use Rattle.cil_syntax.specs.declared.kind.Kind.{Kind}
 use Rattle.cil_syntax.specs.declared.kind.Kind.TheVariants as kinds
-use Rattle.cil_macros.specs.Item.{Item}
+use Rattle.cil_known.specs.macros.Item.{Item}
 use Rattle.cil_known.specs.declared.known.Known.{Known}
 use Rattle.cil_known.specs.Known.{IsKnown, enabled_in}
 use Rattle.cil_known.proofs.StandingLemmas.{its_number}

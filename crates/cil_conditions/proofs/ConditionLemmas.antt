@@ -9,11 +9,11 @@ use Rattle.cil_syntax.specs.declared.term.Op.TheVariants as ops
 use Rattle.cil_syntax.specs.Expressions.{differ}
 use Rattle.cil_syntax.specs.Scopes.{ScopedWord}
 use Rattle.cil_syntax.specs.Terms.{Term, Leaf, Name, Form, Terms, nil, cons}
-use Rattle.cil_macros.specs.Item.{Item, OptSet}
-use Rattle.cil_names.specs.Declarations.{Symbol, name_of}
+use Rattle.cil_known.specs.macros.Item.{Item, OptSet}
+use Rattle.cil_known.specs.names.Declarations.{Symbol, name_of}
 use Rattle.cil_known.specs.Known.{IsNumbered}
 use Rattle.cil_known.specs.Members.{StandsFor}
-use Rattle.cil_names.proofs.DeclareDecided.{symbol_by}
+use Rattle.cil_known.proofs.names_lemmas.DeclareDecided.{symbol_by}
 use Rattle.cil_known.proofs.MemberLemmas.{stands_for_one}
 use Rattle.cil_conditions.specs.declared.branch.Branch.{Branch}
 use Rattle.cil_conditions.specs.declared.token.Token.{Token}

@@ -20,16 +20,16 @@ use Rattle.cil_syntax.specs.Program.{statement_of}
 use Rattle.cil_syntax.specs.Said.{args_of, said_of}
 use Rattle.cil_syntax.specs.Terms.{nil}
 use Rattle.cil_syntax.specs.Written.{Statement as Said}
-use Rattle.cil_blocks.specs.Branches.{condition_in, replaced}
-use Rattle.cil_blocks.specs.Contents.{is_conditional}
-use Rattle.cil_macros.specs.Item.{all_replaced}
-use Rattle.cil_macros.specs.Items.{Kept, condition_at, item_at, items_in, may_say_lists, placed_at, says_as_written, word_at}
-use Rattle.cil_macros.proofs.ItemsThere.{keyword_there, named_there}
+use Rattle.cil_known.specs.blocks.Branches.{condition_in, replaced}
+use Rattle.cil_known.specs.blocks.Contents.{is_conditional}
+use Rattle.cil_known.specs.macros.Item.{all_replaced}
+use Rattle.cil_known.specs.macros.Items.{Kept, condition_at, item_at, items_in, may_say_lists, placed_at, says_as_written, word_at}
+use Rattle.cil_known.proofs.macros_lemmas.ItemsThere.{keyword_there, named_there}
 use Rattle.cil_known.specs.declared.known.Known.{Known}
 use Rattle.cil_known.specs.Known.{BeginWith, IsKnown, enabled_in, row_in, value_in}
-use Rattle.cil_names.specs.Resolves.{all_wanted_in, is_mapping, wanted_in}
-use Rattle.cil_names.specs.Unresolved.{term_with}
-use Rattle.cil_names.proofs.ReadingLemmas.{plain_said}
+use Rattle.cil_known.specs.names.Resolves.{all_wanted_in, is_mapping, wanted_in}
+use Rattle.cil_known.specs.names.Unresolved.{term_with}
+use Rattle.cil_known.proofs.names_lemmas.ReadingLemmas.{plain_said}
 use Rattle.std.proofs.lemmas.List.{map-append}
 use Rattle.cil_conditions.specs.declared.found.Found.{Found}
 use Rattle.cil_conditions.specs.declared.token.Token.{Token}

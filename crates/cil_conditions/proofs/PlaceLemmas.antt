@@ -18,7 +18,7 @@ use Rattle.cil_base.specs.Places.{contains_at, get_at}
 use Rattle.cil_base.specs.Rising.{rising_in_front}
 use Rattle.cil_syntax.specs.declared.kind.Kind.{Kind}
 use Rattle.cil_syntax.specs.declared.kind.Kind.TheVariants as kinds
-use Rattle.cil_macros.specs.Items.{Kept, condition_at, items_in}
+use Rattle.cil_known.specs.macros.Items.{Kept, condition_at, items_in}
 use Rattle.cil_known.specs.declared.known.Known.{Known}
 use Rattle.cil_known.specs.Known.{IsKnown, enabled_in}
 use Rattle.std.proofs.lemmas.List.{take_all, take_more}

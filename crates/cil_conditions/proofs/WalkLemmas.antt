@@ -17,14 +17,14 @@ use Rattle.cil_syntax.specs.Said.{said_of, word_in}
 use Rattle.cil_syntax.specs.Scopes.{ScopedWord}
 use Rattle.cil_syntax.specs.Terms.{Form, Terms, cons, nil}
 use Rattle.cil_faults.specs.Spots.{spot_at}
-use Rattle.cil_macros.specs.Item.{Item, OptSet, all_replaced}
+use Rattle.cil_known.specs.macros.Item.{Item, OptSet, all_replaced}
 use Rattle.cil_known.specs.declared.known.Known.{Known}
 use Rattle.cil_known.specs.Known.{BeginWith, IsKnown, IsNumberFor, IsNumbered, StandsForNothing, enabled_in, meant_in, value_in}
-use Rattle.cil_names.specs.Resolves.{Word as AWord}
-use Rattle.cil_names.specs.Unresolved.{term_with, terms_with}
-use Rattle.cil_names.proofs.AskedLemmas.{all_asked_in, asked_in, form_asked, leaf_asked, more_asked, none_asked}
+use Rattle.cil_known.specs.names.Resolves.{Word as AWord}
+use Rattle.cil_known.specs.names.Unresolved.{term_with, terms_with}
+use Rattle.cil_known.proofs.names_lemmas.AskedLemmas.{all_asked_in, asked_in, form_asked, leaf_asked, more_asked, none_asked}
 use Rattle.cil_known.proofs.BehindLemmas.{behind_form, behind_leaf}
-use Rattle.cil_names.proofs.UnresolvedLemmas.{scoped_form, scoped_leaf, scoped_name}
+use Rattle.cil_known.proofs.names_lemmas.UnresolvedLemmas.{scoped_form, scoped_leaf, scoped_name}
 use Rattle.cil_conditions.specs.declared.token.Token.{Token}
 use Rattle.cil_conditions.specs.declared.token.Token.TheVariants as tokens
 use Rattle.cil_conditions.specs.Conditions.{FormNamesBooleans, NamesBooleans, op_of, turns}

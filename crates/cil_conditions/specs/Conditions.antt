@@ -7,9 +7,9 @@ use Rattle.cil_syntax.specs.declared.term.Op.TheVariants as ops
 use Rattle.cil_syntax.specs.Expressions.{differ}
 use Rattle.cil_syntax.specs.Scopes.{ScopedWord}
 use Rattle.cil_syntax.specs.Terms.{Term, Leaf, Name, Form, Terms, nil, cons}
-use Rattle.cil_blocks.specs.Contents.{Branch}
-use Rattle.cil_macros.specs.Item.{Item, OptSet}
-use Rattle.cil_names.specs.Declarations.{Symbol, name_of}
+use Rattle.cil_known.specs.blocks.Contents.{Branch}
+use Rattle.cil_known.specs.macros.Item.{Item, OptSet}
+use Rattle.cil_known.specs.names.Declarations.{Symbol, name_of}
 use Rattle.cil_known.specs.Members.{StandsFor}
 use Rattle.cil_conditions.specs.declared.token.Token.{Token}
 use Rattle.cil_conditions.specs.declared.token.Token.TheVariants as tokens

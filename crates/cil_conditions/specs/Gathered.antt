@@ -5,8 +5,8 @@ use Rattle.std.specs.Ordering.{nat_cmp, on}
 use Rattle.std.specs.declared.cmp.Ordering.{Ordering}
 use Rattle.cil_syntax.specs.declared.kind.Kind.{Kind}
 use Rattle.cil_syntax.specs.declared.kind.Kind.TheVariants as kinds
-use Rattle.cil_blocks.specs.Contents.{is_conditional}
-use Rattle.cil_macros.specs.Items.{Kept, condition_at, item_at, items_in}
+use Rattle.cil_known.specs.blocks.Contents.{is_conditional}
+use Rattle.cil_known.specs.macros.Items.{Kept, condition_at, item_at, items_in}
 use Rattle.cil_known.specs.declared.known.Known.{Known}
 use Rattle.cil_known.specs.Known.{IsKnown, enabled_in}
 use Rattle.cil_conditions.specs.declared.found.Found.{Found}

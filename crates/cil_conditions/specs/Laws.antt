@@ -2,8 +2,8 @@
 use Rattle.std.specs.Prelude.{◌≡◌, ◌↔◌, ℕ, Bool, true, List, Option}
 use Rattle.cil_syntax.specs.Scopes.{ScopedWord}
 use Rattle.cil_syntax.specs.Terms.{Term}
-use Rattle.cil_blocks.specs.Contents.{Branch as SaidBranch}
-use Rattle.cil_macros.specs.Item.{Item, OptSet}
+use Rattle.cil_known.specs.blocks.Contents.{Branch as SaidBranch}
+use Rattle.cil_known.specs.macros.Item.{Item, OptSet}
 use Rattle.cil_conditions.specs.declared.branch.Branch.{Branch}
 use Rattle.cil_conditions.specs.declared.token.Token.{Token}
 use Rattle.cil_conditions.specs.Active.{is_active}

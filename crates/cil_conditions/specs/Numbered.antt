@@ -4,9 +4,9 @@ use Rattle.std.specs.List.Sorted.{IsStrictlySortedBy}
 use Rattle.std.specs.Option.{option_map}
 use Rattle.std.specs.Ordering.{nat_cmp, on}
 use Rattle.std.specs.declared.cmp.Ordering.{Ordering}
-use Rattle.cil_blocks.specs.Contents.{is_conditional}
-use Rattle.cil_macros.specs.Item.{OptSet}
-use Rattle.cil_macros.specs.Items.{Kept, condition_at, item_at, items_in}
+use Rattle.cil_known.specs.blocks.Contents.{is_conditional}
+use Rattle.cil_known.specs.macros.Item.{OptSet}
+use Rattle.cil_known.specs.macros.Items.{Kept, condition_at, item_at, items_in}
 use Rattle.cil_conditions.specs.declared.branches.Place.{Place}
 use Rattle.cil_conditions.specs.declared.branch.Branch.{Branch}
 use Rattle.cil_conditions.specs.Conditions.{NamesBooleans}

@@ -4,9 +4,9 @@ use Rattle.cil_syntax.specs.declared.kind.Kind.TheVariants as kinds
 use Rattle.cil_syntax.specs.declared.term.Op.{Op}
 use Rattle.cil_syntax.specs.Scopes.{ScopedWord}
 use Rattle.cil_syntax.specs.Terms.{Term, Leaf, Name, Form, Terms, nil, cons}
-use Rattle.cil_blocks.specs.Contents.{Branch as SaidBranch}
-use Rattle.cil_macros.specs.Item.{Item, OptSet}
-use Rattle.cil_names.specs.Declarations.{Declared, Symbol, name_of}
+use Rattle.cil_known.specs.blocks.Contents.{Branch as SaidBranch}
+use Rattle.cil_known.specs.macros.Item.{Item, OptSet}
+use Rattle.cil_known.specs.names.Declarations.{Declared, Symbol, name_of}
 use Rattle.cil_known.specs.Known.{IsNumbered}
 use Rattle.cil_known.specs.Members.{StandsFor}
 use Rattle.cil_conditions.specs.declared.branch.Branch.{Branch}

@@ -10,11 +10,11 @@ use Rattle.cil_syntax.specs.Forms.{is_class_list}
 use Rattle.cil_syntax.specs.Said.{args_of, said_of}
 use Rattle.cil_syntax.specs.Scopes.{ScopedWord}
 use Rattle.cil_syntax.specs.Terms.{Leaf, Terms, cons}
-use Rattle.cil_macros.specs.Item.{Item}
+use Rattle.cil_known.specs.macros.Item.{Item}
 use Rattle.cil_known.specs.declared.known.Known.{Known}
 use Rattle.cil_known.specs.Known.{BeginWith, IsKnown, enabled_in, meant_in, value_in, wanted_with}
-use Rattle.cil_names.specs.Resolves.{all_wanted_in}
-use Rattle.cil_names.specs.Unresolved.{term_with, terms_with}
+use Rattle.cil_known.specs.names.Resolves.{all_wanted_in}
+use Rattle.cil_known.specs.names.Unresolved.{term_with, terms_with}
 use Rattle.cil_conditions.specs.declared.token.Token.{Token}
 use Rattle.cil_conditions.specs.declared.token.Token.TheVariants as tokens
 use Rattle.cil_conditions.specs.Conditions.{FormNamesBooleans, NamesBooleans}

@@ -3,10 +3,10 @@
 ghost use Rattle.std.specs.Prelude.{◌≡◌, ◌+◌, ◌<◌, IfOk, MatchOption, OnOk, false, length, map, true};
 ghost use Rattle.cil_syntax.specs.Said.{args_of};
 ghost use Rattle.cil_syntax.specs.Terms.{nil};
-ghost use Rattle.cil_blocks.specs.Contents.{is_conditional};
-ghost use Rattle.cil_macros.specs.Items.{item_at, items_in};
+ghost use Rattle.cil_known.specs.blocks.Contents.{is_conditional};
+ghost use Rattle.cil_known.specs.macros.Items.{item_at, items_in};
 ghost use Rattle.cil_known.specs.Known.{row_in};
-ghost use Rattle.cil_names.specs.Rows.{IsTableOf};
+ghost use Rattle.cil_known.specs.names.Rows.{IsTableOf};
 ghost use Rattle.cil_conditions.specs.Gathered.{AreFound};
 ghost use Rattle.cil_conditions.specs.Walk.{IsConditionIn, IsSpelledBy, IsUnsaid};
 
@@ -15,8 +15,8 @@ use crate::condition::Cond;
 use crate::walk::push_condition;
 use cil_base::{NoMemory, short};
 use cil_known::Known;
-use cil_macros::Instances;
-use cil_names::Meaning;
+use cil_known::macros::Instances;
+use cil_known::names::Meaning;
 use cil_syntax::{Keyword, Statement, Term};
 use std::alloc::Global;
 

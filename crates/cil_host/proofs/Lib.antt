@@ -5,3 +5,4 @@ pub mod ListLemmas
 pub mod PermissionLemmas
 pub mod SettingLemmas
 pub mod StateLemmas
+pub use Rattle.cil_avc.proofs as avc_lemmas

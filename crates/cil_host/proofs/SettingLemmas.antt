@@ -21,14 +21,14 @@ use Rattle.cil_syntax.specs.Spelling.{same_bytes}
 use Rattle.cil_names.specs.Declarations.{name_of}
 use Rattle.cil_conditions.specs.Bits.{IsOn, is_on, is_one}
 use Rattle.cil_conditions.specs.Spelled.{AreSameSettings}
-use Rattle.cil_classes.proofs.BitLemmas.{set_is_one}
-use Rattle.cil_tables.specs.Agrees.{Compiles}
-use Rattle.cil_tables.specs.Booleans.{is_default_on}
-use Rattle.cil_tables.specs.Named.{IsNameOf}
-use Rattle.cil_tables.specs.Table.{Table, boolean_names}
-use Rattle.cil_tables.proofs.CompileLemmas.{policy_moved}
-use Rattle.cil_decide.specs.Decides.{IsOnAtFirst}
-use Rattle.cil_decide.proofs.BooleanLemmas.{at_name}
+use Rattle.cil_table_bytes.proofs.classes_lemmas.BitLemmas.{set_is_one}
+use Rattle.cil_table_bytes.specs.tables.Agrees.{Compiles}
+use Rattle.cil_table_bytes.specs.tables.Booleans.{is_default_on}
+use Rattle.cil_table_bytes.specs.tables.Named.{IsNameOf}
+use Rattle.cil_table_bytes.specs.tables.Table.{Table, boolean_names}
+use Rattle.cil_table_bytes.proofs.tables_lemmas.CompileLemmas.{policy_moved}
+use Rattle.cil_avc.specs.decide.Decides.{IsOnAtFirst}
+use Rattle.cil_avc.proofs.decide_lemmas.BooleanLemmas.{at_name}
 use Rattle.cil_host.specs.Settings.{IsDefaultOn, IsSetTo, on_from, on_in, on_names}
 
 -- ---- bits

@@ -7,10 +7,10 @@ use Rattle.cil_base.specs.Lists.{Lists, text_cmp}
 use Rattle.cil_conditions.specs.Bits.{IsOn, is_on}
 use Rattle.cil_faults.specs.declared.failure.Failure.{Failure}
 use Rattle.cil_faults.specs.declared.failure.Failure.TheVariants.{NoMemory}
-use Rattle.cil_tables.specs.CompileAnswer.{IsCompiled}
-use Rattle.cil_tables.specs.CompileRefusal.{CompileFails}
-use Rattle.cil_tables.specs.Table.{boolean_names}
-use Rattle.cil_decide.specs.Decides.{IsOnAtFirst}
+use Rattle.cil_table_bytes.specs.tables.CompileAnswer.{IsCompiled}
+use Rattle.cil_table_bytes.specs.tables.CompileRefusal.{CompileFails}
+use Rattle.cil_table_bytes.specs.tables.Table.{boolean_names}
+use Rattle.cil_avc.specs.decide.Decides.{IsOnAtFirst}
 use Rattle.cil_host.specs.declared.host.Loaded.{Loaded}
 use Rattle.cil_host.specs.declared.host.Policy.{Policy}
 use Rattle.cil_host.specs.Machine.{CanLoad, State, accepted_of, same_state}

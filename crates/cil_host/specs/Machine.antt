@@ -7,17 +7,17 @@ use Rattle.cil_optionals.specs.declared.reason.Reason.{Reason}
 use Rattle.cil_optionals.specs.Certificate.{IsRight}
 use Rattle.cil_optionals.specs.First.{AreFirst}
 use Rattle.cil_optionals.specs.Policy.{ArePolicy}
-use Rattle.cil_decide.specs.declared.decision.Decision.{Decision}
+use Rattle.cil_avc.specs.decide.declared.decision.Decision.{Decision}
 use Rattle.cil_avc.specs.declared.key.Key.{Key}
 use Rattle.cil_avc.specs.Cache.{IsTrueFor}
 use Rattle.cil_optionals.specs.declared.lines.OptionalLine.{OptionalLine}
 use Rattle.cil_optionals.specs.declared.lines.WhyLine.{WhyLine}
-use Rattle.cil_tables.specs.Agrees.{Compiles}
-use Rattle.cil_tables.specs.CompileAnswer.{IsCompiled}
-use Rattle.cil_decide.specs.Decides.{HasNoClass, HasNoContext, ModulesDecide}
+use Rattle.cil_table_bytes.specs.tables.Agrees.{Compiles}
+use Rattle.cil_table_bytes.specs.tables.CompileAnswer.{IsCompiled}
+use Rattle.cil_avc.specs.decide.Decides.{HasNoClass, HasNoContext, ModulesDecide}
 use Rattle.cil_optionals.specs.Lines.{AreOptionalsOf, AreReasonsOf}
 use Rattle.cil_conditions.specs.Bits.{is_on}
-use Rattle.cil_tables.specs.Table.{Table, boolean_names}
+use Rattle.cil_table_bytes.specs.tables.Table.{Table, boolean_names}
 use Rattle.cil_host.specs.Settings.{on_in, on_names}
 use Rattle.cil_host.specs.declared.host.Policy.{Policy}
 use Rattle.cil_host.specs.declared.fault.HostError.{HostError}

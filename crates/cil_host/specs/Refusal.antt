@@ -4,10 +4,10 @@ use Rattle.sha2.specs.Sha256.{sha256}
 use Rattle.cil_base.specs.Lists.{Lists, text_cmp}
 use Rattle.cil_faults.specs.declared.failure.Failure.{Failure}
 use Rattle.cil_optionals.specs.declared.reason.Reason.{Reason}
-use Rattle.cil_tables.specs.Agrees.{Compiles}
-use Rattle.cil_tables.specs.CompileAnswer.{IsCompiled}
-use Rattle.cil_tables.specs.CompileRefusal.{CompileFails}
-use Rattle.cil_tables.specs.Table.{Table}
+use Rattle.cil_table_bytes.specs.tables.Agrees.{Compiles}
+use Rattle.cil_table_bytes.specs.tables.CompileAnswer.{IsCompiled}
+use Rattle.cil_table_bytes.specs.tables.CompileRefusal.{CompileFails}
+use Rattle.cil_table_bytes.specs.tables.Table.{Table}
 use Rattle.cil_table_bytes.specs.Layout.{layout}
 use Rattle.cil_host.specs.Machine.{State, CanLoad}
 use Rattle.cil_host.specs.Settings.{IsDefaultOn}

@@ -9,8 +9,8 @@ use Rattle.cil_syntax.specs.Spelling.{same_bytes}
 use Rattle.cil_macros.specs.Item.{Item, OptSet}
 use Rattle.cil_conditions.specs.Conditions.{Settings}
 use Rattle.cil_optionals.specs.Policy.{ArePolicy}
-use Rattle.cil_tables.specs.Booleans.{is_default_on}
-use Rattle.cil_tables.specs.Named.{IsNameOf}
+use Rattle.cil_table_bytes.specs.tables.Booleans.{is_default_on}
+use Rattle.cil_table_bytes.specs.tables.Named.{IsNameOf}
 
 -- a boolean is on where its name is one of these
 abbrev pub on_in : List (List ℕ) → Settings

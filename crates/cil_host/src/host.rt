@@ -8,24 +8,24 @@ ghost use Rattle.cil_host.specs.Machine.{OfLoaded, Queries, State, TellsOptional
 ghost use Rattle.cil_host.specs.Permissions.{AreNamesOf, IsInOrder, IsPermissionOf};
 ghost use Rattle.cil_host.specs.Listed.{line_of};
 ghost use Rattle.cil_host.specs.Refusal.{IsPolicyOf, Loads};
-ghost use Rattle.cil_tables.specs.CompileRefusal.{CompileFails};
+ghost use Rattle.cil_table_bytes.specs.tables.CompileRefusal.{CompileFails};
 ghost use Rattle.cil_host.specs.Sets.{Sets};
 
 use crate::fault::{HostError, QueryFault};
 use crate::lines::{copied_optionals, copied_reasons};
 use crate::listing::{ListLine, lines_of};
 use cil_avc::Avc;
-use cil_base::{Bytes, NoMemory};
-use cil_decide::{
+use cil_avc::decide::{
     Decision, Settings, boolean_named, class_named, defaults, laws, parse_context, permission_at,
     permission_named, permissions_of,
 };
+use cil_base::{Bytes, NoMemory};
 use cil_faults::Failure;
 use cil_modset::{BundleError, Installed, ModuleSet};
 use cil_optionals::{OptionalLine, WhyLine};
 use cil_sexpr::ReadError;
 use cil_table_bytes::measure;
-use cil_tables::{Compiled, compile};
+use cil_table_bytes::tables::{Compiled, compile};
 use std::alloc::Global;
 use std::hash::BuildHasher;
 use std::marker::Model;

@@ -9,6 +9,9 @@ mod host;
 mod lines;
 mod listing;
 
+pub use cil_avc as avc;
+pub use cil_avc::decide;
+pub use cil_table_bytes::tables;
 pub use fault::{HostError, QueryFault};
 pub use host::{Host, Loaded};
 pub use listing::ListLine;

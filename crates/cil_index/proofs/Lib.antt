@@ -11,3 +11,5 @@ mod RisingLemmas
 mod RunLemmas
 mod SetLemmas
 mod StartLemmas
+pub use Rattle.cil_rules.proofs.classes_lemmas
+pub use Rattle.cil_rules.proofs as rules_lemmas

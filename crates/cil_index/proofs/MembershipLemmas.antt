@@ -9,7 +9,7 @@ use Rattle.std.proofs.lemmas.Nat.Bits.{bit_at_set_other, bit_at_set_same}
 use Rattle.std.proofs.lemmas.List.{get_or-replicate, get_or_append_left, get_or_default, get_or-set_other, get_or-set_same, length-append, take_all, take_more}
 use Rattle.std.proofs.lemmas.List.Elements.{Contains-append_cases, Contains-append_left, Contains-append_right}
 use Rattle.cil_base.specs.Lists.{contains_cases, contains_here, contains_none}
-use Rattle.cil_classes.proofs.BitLemmas.{none_set, set_in_either, set_is_one}
+use Rattle.cil_rules.proofs.classes_lemmas.BitLemmas.{none_set, set_in_either, set_is_one}
 use Rattle.cil_index.specs.declared.memberships.Memberships.{Memberships}
 use Rattle.cil_index.specs.Memberships.{AreAtMost, AreFilters, AreMemberships, AreNoted, AreNotedBelow, AreNotedSets, IsAlone, HasBit, IsFilter, IsKnownFor, IsNoted, IsNotedIn, IsNotedSet}
 use Rattle.cil_index.specs.Sets.{all_sets, set_of}

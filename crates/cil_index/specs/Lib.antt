@@ -10,3 +10,6 @@ pub mod Search
 pub mod Searched
 pub mod Sections
 pub mod Sets
+pub use Rattle.cil_rules.specs.classes
+pub use Rattle.cil_conditions.specs as conditions
+pub use Rattle.cil_rules.specs as rules

@@ -11,7 +11,7 @@ use Rattle.cil_syntax.specs.declared.term.LookedUp.{LookedUp}
 use Rattle.cil_syntax.specs.declared.term.Op.{Op}
 use Rattle.cil_syntax.specs.declared.term.Term as rust
 use Rattle.cil_syntax.specs.declared.term.Word.{Word as RustWord}
-use Rattle.cil_macros.specs.Item.{all_words_in}
+use Rattle.cil_names.specs.macros.Item.{all_words_in}
 use Rattle.cil_names.specs.Resolves.{Permission as APermission, Word as AWord, words_of_class}
 use Rattle.cil_names.specs.Unresolved.{terms_with}
 use Rattle.cil_names.proofs.AskedLemmas.{all_asked_in, asked_in, class_asked, form_asked, leaf_asked, more_asked, name_asked, none_asked}

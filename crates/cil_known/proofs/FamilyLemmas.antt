@@ -10,7 +10,7 @@ use Rattle.cil_syntax.specs.Forms.{word_and_term}
 use Rattle.cil_faults.specs.Namespaces.{Namespace}
 use Rattle.cil_syntax.specs.Scopes.{ScopedWord}
 use Rattle.cil_syntax.specs.Terms.{Term, Leaf, Name, Form, Terms, nil, cons}
-use Rattle.cil_macros.specs.Item.{Item, OptSet, all_words_in, is_enabled, words_in}
+use Rattle.cil_names.specs.macros.Item.{Item, OptSet, all_words_in, is_enabled, words_in}
 use Rattle.cil_names.specs.Declarations.{Symbol}
 use Rattle.cil_names.specs.Resolves.{found_in}
 use Rattle.cil_syntax.specs.declared.kind.Kind.{Kind}

@@ -12,7 +12,7 @@ use Rattle.cil_syntax.specs.declared.term.Term.TheVariants as variants
 use Rattle.cil_syntax.specs.declared.term.Word.{Word}
 use Rattle.cil_syntax.specs.Said.{said_of, all_said, word_in}
 use Rattle.cil_syntax.proofs.SaidLemmas.{form_said, leaf_said, name_said}
-use Rattle.cil_macros.specs.Item.{words_in, all_words_in}
+use Rattle.cil_names.specs.macros.Item.{words_in, all_words_in}
 
 module _ (m : ℕ) where
   abbrev pub leaves_of : rust.Term → List Word

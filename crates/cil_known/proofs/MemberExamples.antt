@@ -10,7 +10,7 @@ use Rattle.cil_syntax.specs.Scopes.{ScopedWord}
 use Rattle.cil_syntax.specs.Spelling.{same_bytes}
 use Rattle.cil_syntax.specs.Table.{entry_of}
 use Rattle.cil_syntax.specs.Terms.{Term, Leaf, Name, Form, Terms, nil, cons}
-use Rattle.cil_macros.specs.Item.{Item, all_words_in, nobody, words_in}
+use Rattle.cil_names.specs.macros.Item.{Item, all_words_in, nobody, words_in}
 use Rattle.cil_names.specs.Declarations.{Symbol, nowhere}
 use Rattle.std.proofs.Common.{arith}
 use Rattle.cil_names.specs.Resolves.{found_in, has}

@@ -13,7 +13,7 @@ use Rattle.cil_syntax.specs.Scopes.{ScopedWord, asked, same_space}
 use Rattle.cil_syntax.specs.Spelling.{same_bytes}
 use Rattle.cil_syntax.proofs.DecidedEquality.{spaces_decide}
 use Rattle.cil_syntax.proofs.KindLemmas.{one_kind, same_kind}
-use Rattle.cil_macros.specs.Item.{Item, OptSet, is_enabled}
+use Rattle.cil_names.specs.macros.Item.{Item, OptSet, is_enabled}
 use Rattle.cil_names.specs.Declarations.{Declaration, Declared, IsDeclaration, Symbol, by, declared_by, object, object_role}
 use Rattle.cil_names.specs.Resolves.{found_in}
 use Rattle.cil_known.specs.Family.{Family, holds, no_range}

@@ -14,15 +14,15 @@ use Rattle.cil_faults.specs.Namespaces.{qualified}
 use Rattle.cil_syntax.specs.declared.kind.Kind.{Kind}
 use Rattle.std.proofs.lemmas.Option.{same_Some}
 use Rattle.cil_names.specs.declared.entry.Entry.{Entry}
-use Rattle.cil_blocks.specs.declared.namespaces.Space.{Space}
+use Rattle.cil_names.specs.blocks.declared.namespaces.Space.{Space}
 use Rattle.cil_names.specs.Entries.{AreOrdered, by_name_cmp, key_of}
 use Rattle.cil_syntax.specs.NameSpaces.{rank}
-use Rattle.cil_macros.specs.Item.{OptSet}
+use Rattle.cil_names.specs.macros.Item.{OptSet}
 use Rattle.cil_known.specs.Numbers.{AreApart, AreNumbers, ArePlain, ArePlainNames, IsPlain, has_section, spelled_of}
-use Rattle.cil_blocks.specs.Namespaces.{AreNamespaces, space_at}
+use Rattle.cil_names.specs.blocks.Namespaces.{AreNamespaces, space_at}
 use Rattle.cil_names.proofs.OrderLemmas.{key_total, one_key}
 use Rattle.cil_base.proofs.SearchLemmas.{one_number}
-use Rattle.cil_blocks.proofs.NamespaceLemmas.{same_number}
+use Rattle.cil_names.proofs.blocks_lemmas.NamespaceLemmas.{same_number}
 
 abbrev pub is_dot : ℕ → Bool
 is_dot b = b == 46

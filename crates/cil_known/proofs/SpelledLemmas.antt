@@ -4,9 +4,9 @@ use Rattle.std.specs.Prelude.{reverse}
 use Rattle.std.specs.List.{join_with_byte}
 use Rattle.std.proofs.lemmas.List.{reverse-append}
 use Rattle.cil_faults.specs.Namespaces.{qualified, Namespace}
-use Rattle.cil_blocks.specs.declared.namespaces.Space.{Space}
-use Rattle.cil_blocks.specs.Namespaces.{AreNamespaces, space_at}
-use Rattle.cil_blocks.proofs.NamespaceLemmas.{global_at, inner_of}
+use Rattle.cil_names.specs.blocks.declared.namespaces.Space.{Space}
+use Rattle.cil_names.specs.blocks.Namespaces.{AreNamespaces, space_at}
+use Rattle.cil_names.proofs.blocks_lemmas.NamespaceLemmas.{global_at, inner_of}
 
 joined_last : (y : List ℕ) (ys : List (List ℕ)) (x : List ℕ) → join_with_byte 46 (y ∷ ys ++ x ∷ []) ≡ join_with_byte 46 (y ∷ ys) ++ 46 ∷ x
 joined_last y [] x = refl

@@ -7,7 +7,7 @@ use Rattle.cil_base.specs.Places.{get_at, get_contains, some_at}
 use Rattle.cil_base.proofs.NameSearches.{number_is}
 use Rattle.cil_syntax.specs.declared.kind.Kind.{Kind}
 use Rattle.cil_syntax.specs.Scopes.{ScopedWord}
-use Rattle.cil_macros.specs.Item.{Item}
+use Rattle.cil_names.specs.macros.Item.{Item}
 use Rattle.cil_known.specs.declared.known.Known.{Known}
 use Rattle.cil_names.specs.Declarations.{Declared, Symbol, name_of}
 use Rattle.cil_known.specs.Known.{HasNumberFor, IsKnown, IsNumbered, StandsForNothing, enabled_in}

@@ -6,7 +6,7 @@ use Rattle.std.specs.Option.{option_map_or}
 use Rattle.cil_syntax.specs.Forms.{word_and_term}
 use Rattle.cil_syntax.specs.Scopes.{ScopedWord}
 use Rattle.cil_syntax.specs.Terms.{Term, Terms}
-use Rattle.cil_macros.specs.Item.{Item, OptSet, is_enabled, words_in}
+use Rattle.cil_names.specs.macros.Item.{Item, OptSet, is_enabled, words_in}
 use Rattle.cil_names.specs.Declarations.{Symbol}
 use Rattle.cil_names.specs.Resolves.{found_in}
 use Rattle.cil_syntax.specs.Expressions.{is_in}

@@ -11,16 +11,16 @@ use Rattle.cil_syntax.specs.Kinds.{kind_number}
 use Rattle.cil_syntax.specs.declared.term.Word.{Word}
 use Rattle.cil_syntax.specs.Terms.{Term}
 use Rattle.cil_names.specs.declared.entry.Entry.{Entry}
-use Rattle.cil_blocks.specs.declared.namespaces.Space.{Space}
+use Rattle.cil_names.specs.blocks.declared.namespaces.Space.{Space}
 use Rattle.cil_names.specs.Entries.{AreEntries, is_declared_in, is_in}
-use Rattle.cil_macros.specs.Item.{Item, OptSet, replaced}
+use Rattle.cil_names.specs.macros.Item.{Item, OptSet, replaced}
 use Rattle.cil_syntax.specs.Scopes.{ScopedWord}
 use Rattle.cil_names.specs.Meanings.{meant}
 use Rattle.cil_names.specs.PermissionWords.{meanings, value_of}
 use Rattle.cil_names.specs.Resolves.{Wanted, wanted_in}
 use Rattle.cil_known.specs.Numbers.{AreNumbers}
 use Rattle.cil_names.specs.Symbols.{symbol_of}
-use Rattle.cil_blocks.specs.Namespaces.{AreNamespaces}
+use Rattle.cil_names.specs.blocks.Namespaces.{AreNamespaces}
 use Rattle.cil_known.specs.declared.known.Known.{Known}
 use Rattle.cil_known.specs.Members.{IsMember, StandsFor, space_of}
 use Rattle.cil_known.specs.Spaces.{any_sets}

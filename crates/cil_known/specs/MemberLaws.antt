@@ -3,7 +3,7 @@ use Rattle.std.specs.Prelude.{◌≡◌, ◌↔◌, ℕ, true, List, Some}
 use Rattle.cil_syntax.specs.Scopes.{ScopedWord, asked}
 use Rattle.cil_syntax.specs.declared.kind.Kind.{Kind}
 use Rattle.cil_syntax.specs.Kinds.{is_wanted}
-use Rattle.cil_macros.specs.Item.{Item, OptSet}
+use Rattle.cil_names.specs.macros.Item.{Item, OptSet}
 use Rattle.cil_names.specs.Declarations.{Declared, Symbol}
 use Rattle.cil_known.specs.Family.{Family, IsRanked, Range, Solves, holds, no_range}
 use Rattle.cil_known.specs.Spaces.{SpaceOf, is_declared, is_set}

@@ -6,7 +6,7 @@ use Rattle.cil_syntax.specs.declared.kind.Keyword.TheVariants as keywords
 use Rattle.cil_syntax.specs.declared.kind.Kind.{Kind}
 use Rattle.cil_syntax.specs.declared.kind.Kind.TheVariants as kinds
 use Rattle.cil_syntax.specs.Scopes.{ScopedWord}
-use Rattle.cil_macros.specs.Item.{Item, OptSet}
+use Rattle.cil_names.specs.macros.Item.{Item, OptSet}
 use Rattle.cil_names.specs.Declarations.{Declared, Symbol}
 use Rattle.cil_known.specs.Family.{Family, Solves, holds, no_range}
 use Rattle.cil_known.specs.Spaces.{SpaceOf}

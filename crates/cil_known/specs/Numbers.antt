@@ -9,12 +9,12 @@ use Rattle.cil_syntax.specs.Spelling.{is_name, same_bytes}
 use Rattle.cil_syntax.specs.Scopes.{IsDotless}
 use Rattle.cil_names.specs.declared.entry.Entry.{Entry}
 use Rattle.cil_known.specs.declared.numbers.Sections.{Sections}
-use Rattle.cil_blocks.specs.declared.namespaces.Space.{Space}
+use Rattle.cil_names.specs.blocks.declared.namespaces.Space.{Space}
 use Rattle.cil_names.specs.Declarations.{name_of}
 use Rattle.cil_names.specs.Entries.{is_declared_in, place_where}
 use Rattle.cil_names.specs.Symbols.{is_of, symbol_of}
-use Rattle.cil_macros.specs.Item.{OptSet}
-use Rattle.cil_blocks.specs.Namespaces.{space_at}
+use Rattle.cil_names.specs.macros.Item.{OptSet}
+use Rattle.cil_names.specs.blocks.Namespaces.{space_at}
 
 -- the qualified name of an entry
 abbrev pub spelled_of : List Space → Entry → List ℕ

@@ -4,7 +4,7 @@ use Rattle.cil_syntax.specs.declared.kind.Keyword.{Keyword}
 use Rattle.cil_syntax.specs.declared.kind.Kind.{Kind}
 use Rattle.cil_syntax.specs.Terms.{Leaf, Terms, nil, cons}
 use Rattle.cil_names.specs.Declarations.{Symbol}
-use Rattle.cil_macros.specs.Item.{Item, OptSet, is_enabled}
+use Rattle.cil_names.specs.macros.Item.{Item, OptSet, is_enabled}
 use Rattle.cil_syntax.specs.Scopes.{ScopedWord}
 use Rattle.cil_known.specs.Members.{StandsFor}
 

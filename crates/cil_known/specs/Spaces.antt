@@ -9,7 +9,7 @@ use Rattle.cil_syntax.specs.Kinds.{is_wanted, kind_number}
 use Rattle.cil_faults.specs.Namespaces.{Namespace}
 use Rattle.cil_syntax.specs.Scopes.{ScopedWord, asked, same_space}
 use Rattle.cil_syntax.specs.Spelling.{same_bytes}
-use Rattle.cil_macros.specs.Item.{Item, OptSet, is_enabled}
+use Rattle.cil_names.specs.macros.Item.{Item, OptSet, is_enabled}
 use Rattle.cil_names.specs.Declarations.{Declaration, Symbol, declared_by, object_role}
 use Rattle.cil_names.specs.Resolves.{found_in}
 

@@ -3,14 +3,14 @@
 
 ghost use Rattle.std.specs.Prelude.{◌≡◌, ℕ, List, MatchOption, None, get_or, true};
 ghost use Rattle.cil_syntax.specs.declared.kind.Kind as kinds;
-ghost use Rattle.cil_macros.specs.Item.{Item, is_enabled};
-ghost use Rattle.cil_macros.specs.Items.{item_at};
+ghost use Rattle.cil_names.specs.macros.Item.{Item, is_enabled};
+ghost use Rattle.cil_names.specs.macros.Items.{item_at};
 ghost use Rattle.cil_syntax.specs.Scopes.{ScopedWord};
 ghost use Rattle.cil_known.specs.Numbers.{has_section};
 ghost use Rattle.cil_known.specs.Members.{HasNoSets};
 ghost use Rattle.cil_known.specs.Known.{IsKnown, IsNumberFor, StandsForNothing, enabled_in, meant_in};
 
-use cil_macros::Instances;
+use cil_names::macros::Instances;
 use cil_names::{Lookup, Meaning, Words, laws, same_kind};
 use cil_syntax::{Bytes, Kind};
 

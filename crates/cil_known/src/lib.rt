@@ -18,6 +18,8 @@ mod meanings_behind;
 mod numbers;
 pub mod spelled;
 
+pub use cil_names as names;
+pub use cil_names::macros;
 pub use known::{Known, meaning_at};
 pub use meanings_behind::{behind, behind_first, behind_word};
 pub use numbers::{Numbering, Sections, numbered};

@@ -1,7 +1,7 @@
 //! The meanings of what a statement asks for, from one of its terms on: a walk over the terms in front, without a look-up.
 
 ghost use Rattle.std.specs.Prelude.{◌≡◌, ℕ, drop, length};
-ghost use Rattle.cil_macros.specs.Item.{all_words_in, words_in};
+ghost use Rattle.cil_names.specs.macros.Item.{all_words_in, words_in};
 ghost use Rattle.cil_known.specs.Known.{wanted_with};
 ghost use Rattle.cil_names.specs.Resolves.{all_wanted_in, words_of_class};
 ghost use Rattle.cil_names.specs.Unresolved.{terms_with};

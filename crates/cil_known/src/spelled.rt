@@ -2,11 +2,11 @@
 
 ghost use Rattle.std.specs.Prelude.{◌≡◌, ◌≤◌, ◌∷◌, ◌++◌, IfOk, length};
 ghost use Rattle.cil_faults.specs.Namespaces.{qualified};
-ghost use Rattle.cil_blocks.specs.Namespaces.{space_at};
+ghost use Rattle.cil_names.specs.blocks.Namespaces.{space_at};
 
 use cil_base::NoMemory;
-use cil_blocks::Namespaces;
-use cil_blocks::spelled::spelled as spelled_space;
+use cil_names::blocks::Namespaces;
+use cil_names::blocks::spelled::spelled as spelled_space;
 use cil_syntax::Bytes;
 use std::alloc::Global;
 

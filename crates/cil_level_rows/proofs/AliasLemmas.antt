@@ -27,7 +27,7 @@ use Rattle.cil_mls.specs.declared.named.Named.{Named}
 use Rattle.cil_mls.specs.Names.{named_cmp}
 use Rattle.cil_mls.specs.Ordering.{IsNumberedOrder}
 use Rattle.cil_mls.proofs.OrderingLemmas.{its_number, one_number}
-use Rattle.cil_levels.specs.Begun.{AreInverse}
+use Rattle.cil_ranges.specs.levels_crate.Begun.{AreInverse}
 use Rattle.cil_level_rows.specs.AliasEntries.{AreAliasesBelow, AreItems, IsEntryAlias, alias_to}
 use Rattle.cil_level_rows.specs.Rows.{IsAliasRow}
 

@@ -13,8 +13,8 @@ use Rattle.cil_mls.specs.declared.named.Named.{Named}
 use Rattle.cil_mls.specs.Dominance.{AreSame, Dominates}
 use Rattle.cil_mls.specs.Names.{named_cmp}
 use Rattle.cil_mls.proofs.SymbolLemmas.{get_map, get_unmap}
-use Rattle.cil_levels.specs.Permitted.{ArePermitted, IsPermitted}
-use Rattle.cil_levels.specs.Values.{Values}
+use Rattle.cil_ranges.specs.levels_crate.Permitted.{ArePermitted, IsPermitted}
+use Rattle.cil_ranges.specs.levels_crate.Values.{Values}
 use Rattle.cil_labels.specs.LevelTable.{IsWritable, NamesPlace, PermitsBy}
 use Rattle.cil_labels.proofs.LabelLemmas.{label_moved}
 use Rattle.cil_level_rows.specs.Laws.{ClearsAlike, ReadsAlike}

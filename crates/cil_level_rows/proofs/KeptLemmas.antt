@@ -19,10 +19,10 @@ use Rattle.cil_known.specs.declared.known.Known.{Known}
 use Rattle.cil_known.specs.Known.{IsKnown, IsNumbered, enabled_in}
 use Rattle.cil_known.specs.Numbers.{AreApart, has_section}
 use Rattle.cil_known.proofs.StandingLemmas as standings
-use Rattle.cil_attrs.specs.Targets.{IsEntryAt}
+use Rattle.cil_ranges.specs.attrs.Targets.{IsEntryAt}
 use Rattle.cil_mls.specs.declared.level.Range.{Range}
 use Rattle.cil_mls.specs.OrderFaults.{Switches}
-use Rattle.cil_levels.proofs.BegunLemmas.{all_more}
+use Rattle.cil_ranges.proofs.levels_crate_lemmas.BegunLemmas.{all_more}
 use Rattle.cil_ranges.specs.Levels.{Ground}
 use Rattle.cil_ranges.specs.Steps.{AreUserRanges}
 use Rattle.cil_ranges.specs.Users.{GivesRange, IsSameRange}

@@ -21,16 +21,16 @@ use Rattle.cil_known.specs.Members.{space_of}
 use Rattle.cil_known.specs.Says.{Says}
 use Rattle.cil_known.specs.Spaces.{Sets, SpaceOf, names}
 use Rattle.cil_known.proofs.MemberLemmas.{declared_is}
-use Rattle.cil_attrs.specs.SetFaults.{DeclaresAt, SetFault, alias_cycle, alias_open, alias_twice, limit_of, many, set_cycle}
+use Rattle.cil_ranges.specs.attrs.SetFaults.{DeclaresAt, SetFault, alias_cycle, alias_open, alias_twice, limit_of, many, set_cycle}
 use Rattle.cil_mls.specs.declared.categories.Categories.{Categories}
 use Rattle.cil_mls.specs.Bits.{AreWords}
 use Rattle.cil_mls.specs.Names.{named_cmp}
 use Rattle.cil_mls.specs.OrderFaults.{AreOver, OrderFault, Switches, alias_of_category, alias_of_sensitivity, categories_unordered, circular_set, many_categories, many_sensitivities, mls_twice, most_categories, most_sensitivities, sensitivities_unordered}
 use Rattle.cil_mls.specs.Ordering.{IsBelow, IsTheOrder}
 use Rattle.cil_mls.specs.Orders.{IsOrder}
-use Rattle.cil_levels.specs.Permitted.{ArePermitted}
-use Rattle.cil_levels.specs.Places.{IsInSpan}
-use Rattle.cil_levels.specs.Values.{AreValues}
+use Rattle.cil_ranges.specs.levels_crate.Permitted.{ArePermitted}
+use Rattle.cil_ranges.specs.levels_crate.Places.{IsInSpan}
+use Rattle.cil_ranges.specs.levels_crate.Values.{AreValues}
 use Rattle.cil_ranges.specs.Steps.{IsGround, LevelFault, no_range, said, two_ranges}
 use Rattle.cil_level_rows.specs.Laws.{NothingIsWrong}
 use Rattle.cil_level_rows.specs.NoLevels.{HasNone, empty_ground, empty_table, is_of_levels, no_values}

@@ -21,7 +21,7 @@ use Rattle.cil_mls.specs.Names.{named_cmp}
 use Rattle.cil_mls.specs.OrderFaults.{AreOrders}
 use Rattle.cil_mls.specs.Ordering.{IsNumberedOrder, IsTheOrder}
 use Rattle.cil_labels.specs.Index.{HasIndex}
-use Rattle.cil_levels.specs.Permitted.{ArePermitted}
+use Rattle.cil_ranges.specs.levels_crate.Permitted.{ArePermitted}
 use Rattle.cil_ranges.specs.declared.levels.Levels.{Levels}
 use Rattle.cil_ranges.specs.Levels.{Ground}
 use Rattle.cil_ranges.specs.Steps.{AreLevels, IsGround}

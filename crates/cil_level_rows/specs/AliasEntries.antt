@@ -11,7 +11,7 @@ use Rattle.cil_known.specs.Numbers.{spelled_of}
 use Rattle.cil_mls.specs.declared.named.Named.{Named}
 use Rattle.cil_mls.specs.Names.{named_cmp}
 use Rattle.cil_mls.specs.Ordering.{AreNumbered}
-use Rattle.cil_levels.specs.Begun.{AreInverse}
+use Rattle.cil_ranges.specs.levels_crate.Begun.{AreInverse}
 
 -- for which items of a kind words and declared names stand, by the numbers that these items have among some names
 pub record AreItems (k : Known) (xs : List Item) (sections : Kind → List (List ℕ)) (kind : Kind) (names : List (List ℕ)) (sets : List (List ℕ)) : Type 0 where

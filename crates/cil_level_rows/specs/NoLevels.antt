@@ -4,7 +4,7 @@ use Rattle.std.specs.Prelude.{◌≡◌, Bool, true, false, List, [], Contains}
 use Rattle.cil_syntax.specs.declared.kind.Keyword.{Keyword}
 use Rattle.cil_syntax.specs.declared.kind.Keyword.TheVariants as keywords
 use Rattle.cil_macros.specs.Item.{Item}
-use Rattle.cil_levels.specs.Values.{Values}
+use Rattle.cil_ranges.specs.levels_crate.Values.{Values}
 use Rattle.cil_ranges.specs.Levels.{Ground}
 use Rattle.cil_labels.specs.LevelTable.{LevelTable}
 

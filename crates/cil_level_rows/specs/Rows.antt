@@ -17,7 +17,7 @@ use Rattle.cil_mls.specs.Bits.{AreWords}
 use Rattle.cil_mls.specs.Dominance.{Dominates}
 use Rattle.cil_mls.specs.Names.{named_cmp}
 use Rattle.cil_mls.specs.OrderFaults.{Switches}
-use Rattle.cil_levels.specs.Permitted.{ArePermitted, IsPermitted}
+use Rattle.cil_ranges.specs.levels_crate.Permitted.{ArePermitted, IsPermitted}
 use Rattle.cil_ranges.specs.Levels.{Ground}
 use Rattle.cil_ranges.specs.Steps.{IsGround}
 use Rattle.cil_ranges.specs.Users.{GivesRange, IsSameRange}

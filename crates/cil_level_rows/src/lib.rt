@@ -16,4 +16,8 @@ mod rows;
 mod users;
 mod words;
 
+pub use cil_labels as labels;
+pub use cil_mls as mls;
+pub use cil_ranges as ranges;
+pub use cil_ranges::attrs;
 pub use policy::labels_of;

@@ -29,11 +29,11 @@ use Rattle.cil_names.proofs.CandidateLemmas.{place_is}
 use Rattle.cil_known.specs.declared.known.Known.{Known}
 use Rattle.cil_known.specs.Known.{IsKnown, enabled_in, meant_in}
 use Rattle.cil_known.specs.Spaces.{is_same_symbol}
-use Rattle.cil_attrs.specs.SetFaults.{symbol_under}
-use Rattle.cil_attrs.specs.Targets.{IsEntryAt}
-use Rattle.cil_attrs.proofs.FaultLemmas.{its_entry}
-use Rattle.cil_attrs.proofs.HoldingLemmas.{both, pair, same_symbol}
-use Rattle.cil_attrs.proofs.MembersLemmas.{same_self}
+use Rattle.cil_mls.specs.attrs.SetFaults.{symbol_under}
+use Rattle.cil_mls.specs.attrs.Targets.{IsEntryAt}
+use Rattle.cil_mls.proofs.attrs_lemmas.FaultLemmas.{its_entry}
+use Rattle.cil_mls.proofs.attrs_lemmas.HoldingLemmas.{both, pair, same_symbol}
+use Rattle.cil_mls.proofs.attrs_lemmas.MembersLemmas.{same_self}
 use Rattle.cil_mls.specs.declared.categories.Categories.{Categories}
 use Rattle.cil_mls.specs.declared.expression.Held.{Held}
 use Rattle.cil_mls.specs.declared.expression.Held.TheVariants.{Nothing, Category, Set}

@@ -17,7 +17,7 @@ use Rattle.cil_macros.specs.Items.{Kept, item_at, items_in}
 use Rattle.cil_names.specs.Laws.{MeansWhatItNames}
 use Rattle.cil_known.specs.declared.known.Known.{Known}
 use Rattle.cil_known.specs.Known.{IsKnown, enabled_in}
-use Rattle.cil_attrs.specs.SetFaults.{symbol_under}
+use Rattle.cil_mls.specs.attrs.SetFaults.{symbol_under}
 use Rattle.cil_mls.specs.CategorySets.{CircularSet}
 use Rattle.cil_mls.specs.SetEdges.{DeclaresSet, IsSetEdgeIn, is_set, is_set_at, is_set_kind}
 use Rattle.cil_mls.proofs.SetEdgeLemmas.{depends}

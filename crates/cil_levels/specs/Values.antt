@@ -9,7 +9,7 @@ use Rattle.cil_syntax.specs.Terms.{Term, Name, Terms, nil, cons}
 use Rattle.cil_macros.specs.Item.{Item, OptSet}
 use Rattle.cil_names.specs.Declarations.{Symbol}
 use Rattle.cil_known.specs.Spaces.{names}
-use Rattle.cil_attrs.specs.SetFaults.{DeclaresAt, symbol_under}
+use Rattle.cil_mls.specs.attrs.SetFaults.{DeclaresAt, symbol_under}
 use Rattle.cil_mls.specs.CategorySets.{NamesSet}
 use Rattle.cil_levels.specs.Places.{IsCategoryAt, IsInSpan}
 

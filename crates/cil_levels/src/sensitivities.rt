@@ -10,11 +10,11 @@ ghost use Rattle.cil_levels.specs.Sensitivities.{ArePlaces, ArePlacesOfNumbers, 
 
 use crate::beginning::numbers_at;
 use crate::inverse::{inverse_of, place_at};
-use cil_attrs::{Sensitivities, members, standing_of};
 use cil_base::NoMemory;
 use cil_known::{Known, Sections};
 use cil_macros::Instances;
 use cil_mls::Orders;
+use cil_mls::attrs::{Sensitivities, members, standing_of};
 use cil_sets::Numbers;
 use std::alloc::Global;
 

@@ -2,8 +2,8 @@
 use Rattle.std.specs.Prelude.{◌≡◌, ℕ, Bool, if◌then◌else◌, List, [], ◌++◌, length, map, Option, Some}
 use Rattle.cil_faults.specs.declared.failure.Failure.TheVariants as failures
 use Rattle.cil_server.specs.Devices.{IsFront}
-use Rattle.cil_tables.specs.CompileAnswer.{IsCompiled}
-use Rattle.cil_tables.specs.CompileRefusal.{CompileFails}
+use Rattle.cil_server.specs.tables.CompileAnswer.{IsCompiled}
+use Rattle.cil_server.specs.tables.CompileRefusal.{CompileFails}
 use Rattle.cil_locate.specs.Counts.{AreTold, unread}
 use Rattle.cil_locate.specs.Files.{AreOrigins, SourceFile}
 use Rattle.cil_locate.specs.Located.{faults_told, key_of, key_of_note, notes_told}

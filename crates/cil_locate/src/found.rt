@@ -18,8 +18,8 @@ use crate::told::Told;
 use cil_base::NoMemory;
 use cil_faults::{Failure, FaultList};
 use cil_modset::ModuleSet;
+use cil_server::tables::{Compiled, compile};
 use cil_sexpr::ReadFault;
-use cil_tables::{Compiled, compile};
 use std::alloc::Global;
 
 /// What is wrong with some files.

@@ -2,7 +2,7 @@
 -- their words mean, through calls of calls too.
 use Rattle.std.specs.Prelude.{◌≡◌, ℕ, Bool, true, false, if◌then◌else◌, cond, List, [], ◌∷◌, Contains, Option, Some, None, find, refl}
 use Rattle.std.proofs.Common.{◌+◌, ◌-◌, take, drop, slice_range, sym, ap, subst, arith}
-use Rattle.cil_modset.specs.Modules.{module_of}
+use Rattle.cil_syntax.specs.modset.Modules.{module_of}
 use Rattle.cil_syntax.specs.declared.kind.Sign.{Sign}
 use Rattle.cil_syntax.specs.declared.kind.Sign.TheVariants as signs
 use Rattle.cil_syntax.specs.declared.term.Op.{Op}

@@ -17,8 +17,8 @@ use Rattle.cil_faults.proofs.RefusalLemmas.{fails_alike, faults_alike}
 use Rattle.cil_syntax.specs.declared.kind.Keyword.{Keyword}
 use Rattle.cil_syntax.specs.declared.kind.Kind.{Kind}
 use Rattle.cil_macros.specs.Item.{Item, OptSet}
-use Rattle.cil_names.specs.Declarations.{nowhere}
-use Rattle.cil_known.specs.Members.{space_of}
+use Rattle.cil_attrs.specs.names.Declarations.{nowhere}
+use Rattle.cil_attrs.specs.known.Members.{space_of}
 use Rattle.cil_attrs.specs.SetFaults.{IsItemName, SetFault}
 use Rattle.cil_mls.specs.Ordering.{HasNoOrder, IsNumberedOrder}
 use Rattle.cil_mls.specs.OrderFaults.{IsUnordered, OrderFault, Switches, alias_of_category, alias_of_sensitivity, categories_unordered, circular_set, many_categories, many_sensitivities, mls_twice, sensitivities_unordered}

@@ -3,7 +3,7 @@ use Rattle.std.proofs.Common.{◌≡◌, true, false, refl, ap}
 use Rattle.cil_syntax.specs.declared.kind.Keyword.{Keyword}
 use Rattle.cil_syntax.specs.declared.kind.Keyword.TheVariants as keywords
 use Rattle.cil_syntax.specs.declared.kind.Kind.TheVariants as kinds
-use Rattle.cil_known.specs.Members.{gives_category_aliases, gives_sensitivity_aliases, space_of}
+use Rattle.cil_attrs.specs.known.Members.{gives_category_aliases, gives_sensitivity_aliases, space_of}
 use Rattle.cil_attrs.specs.Givers.{HasKinds}
 use Rattle.cil_attrs.specs.NameSpaces.{categories_kinds, sensitivities_kinds}
 

@@ -4,23 +4,23 @@ use Rattle.std.proofs.Common.{Result, Ok, Err, ◌≡◌, ◌↔◌, ◌⊎◌, 
 use Rattle.std.proofs.lemmas.List.{length-map}
 use Rattle.std.proofs.lemmas.Option.{none-some, same_Some}
 use Rattle.cil_base.specs.Places.{get_contains}
-use Rattle.cil_blocks.specs.Namespaces.{space_at}
+use Rattle.cil_macros.specs.blocks.Namespaces.{space_at}
 use Rattle.cil_settle.specs.declared.edge.Edge.{Edge}
 use Rattle.cil_settle.specs.Cycles.{IsWithin, Leads}
 use Rattle.cil_syntax.specs.declared.kind.Keyword.{Keyword}
 use Rattle.cil_syntax.specs.declared.kind.Kind.{Kind}
 use Rattle.cil_syntax.specs.Scopes.{ScopedWord}
 use Rattle.cil_macros.specs.Item.{Item, OptSet}
-use Rattle.cil_names.proofs.DeclareDecided.{symbol_by}
-use Rattle.cil_known.proofs.StandingLemmas as standings
-use Rattle.cil_names.specs.declared.entry.Entry.{Entry}
-use Rattle.cil_known.specs.declared.known.Known.{Known}
-use Rattle.cil_names.specs.Declarations.{Declared, Symbol, name_of}
-use Rattle.cil_names.specs.Entries.{IsEntryFor}
-use Rattle.cil_known.specs.Known.{HasNumberFor, IsNumbered, enabled_in, meant_in, set_meant}
-use Rattle.cil_known.specs.Members.{StandsFor}
-use Rattle.cil_known.specs.Numbers.{AreApart, has_section, spelled_of}
-use Rattle.cil_names.specs.Symbols.{symbol_of}
+use Rattle.cil_attrs.proofs.names_lemmas.DeclareDecided.{symbol_by}
+use Rattle.cil_attrs.proofs.known_lemmas.StandingLemmas as standings
+use Rattle.cil_attrs.specs.names.declared.entry.Entry.{Entry}
+use Rattle.cil_attrs.specs.known.declared.known.Known.{Known}
+use Rattle.cil_attrs.specs.names.Declarations.{Declared, Symbol, name_of}
+use Rattle.cil_attrs.specs.names.Entries.{IsEntryFor}
+use Rattle.cil_attrs.specs.known.Known.{HasNumberFor, IsNumbered, enabled_in, meant_in, set_meant}
+use Rattle.cil_attrs.specs.known.Members.{StandsFor}
+use Rattle.cil_attrs.specs.known.Numbers.{AreApart, has_section, spelled_of}
+use Rattle.cil_attrs.specs.names.Symbols.{symbol_of}
 use Rattle.cil_mls.specs.Edges.{IsFixed, IsNotFixed}
 use Rattle.cil_mls.specs.Ordering.{AreNumbered, HasNoOrder, IsBelow, IsNumberedOrder}
 use Rattle.cil_mls.specs.Pairs.{IsPairIn}

@@ -14,9 +14,9 @@ use Rattle.cil_syntax.specs.declared.term.Op.{Op}
 use Rattle.cil_syntax.specs.declared.term.Op.TheVariants as ops
 use Rattle.cil_syntax.specs.Terms.{Form, nil, cons}
 use Rattle.cil_macros.specs.Item.{Item, OptSet}
-use Rattle.cil_names.specs.Declarations.{nowhere}
-use Rattle.cil_known.specs.Members.{space_of}
-use Rattle.cil_known.specs.Says.{Says}
+use Rattle.cil_attrs.specs.names.Declarations.{nowhere}
+use Rattle.cil_attrs.specs.known.Members.{space_of}
+use Rattle.cil_attrs.specs.known.Says.{Says}
 use Rattle.cil_attrs.specs.SetFaults.{IsItemName, SetFault}
 use Rattle.cil_mls.specs.declared.in_order.Orders.{Orders}
 use Rattle.cil_mls.specs.CategorySets.{CircularSet}

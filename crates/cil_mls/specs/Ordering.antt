@@ -8,10 +8,10 @@ use Rattle.cil_syntax.specs.declared.term.Op.TheVariants as ops
 use Rattle.cil_syntax.specs.Scopes.{ScopedWord}
 use Rattle.cil_syntax.specs.Terms.{Term, Leaf, Form, Terms, nil, cons}
 use Rattle.cil_macros.specs.Item.{Item, OptSet, is_enabled}
-use Rattle.cil_names.specs.Declarations.{Declared, Symbol}
-use Rattle.cil_known.specs.declared.known.Known.{Known}
-use Rattle.cil_known.specs.Known.{AreStanding, IsKnown, IsNumbered}
-use Rattle.cil_known.specs.Members.{StandsFor}
+use Rattle.cil_attrs.specs.names.Declarations.{Declared, Symbol}
+use Rattle.cil_attrs.specs.known.declared.known.Known.{Known}
+use Rattle.cil_attrs.specs.known.Known.{AreStanding, IsKnown, IsNumbered}
+use Rattle.cil_attrs.specs.known.Members.{StandsFor}
 use Rattle.cil_mls.specs.Orders.{IsOneOrder}
 
 -- words, one after another

@@ -6,10 +6,10 @@ use Rattle.cil_syntax.specs.declared.kind.Kind.{Kind}
 use Rattle.cil_syntax.specs.declared.kind.Kind.TheVariants as kinds
 use Rattle.cil_syntax.specs.Scopes.{ScopedWord}
 use Rattle.cil_macros.specs.Item.{Item, all_words_in}
-use Rattle.cil_names.specs.Declarations.{Symbol}
-use Rattle.cil_names.specs.declared.entry.Entry.{Entry}
-use Rattle.cil_known.specs.declared.known.Known.{Known}
-use Rattle.cil_known.specs.Known.{enabled_in, meant_in}
+use Rattle.cil_attrs.specs.names.Declarations.{Symbol}
+use Rattle.cil_attrs.specs.names.declared.entry.Entry.{Entry}
+use Rattle.cil_attrs.specs.known.declared.known.Known.{Known}
+use Rattle.cil_attrs.specs.known.Known.{enabled_in, meant_in}
 use Rattle.cil_attrs.specs.SetFaults.{DeclaresAt, symbol_under}
 use Rattle.cil_attrs.specs.Targets.{IsEntryAt}
 use Rattle.cil_mls.specs.CategorySets.{DependsOn}

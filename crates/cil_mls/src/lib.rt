@@ -38,6 +38,7 @@ mod words;
 
 pub use categories::{Categories, MOST_CATEGORIES};
 pub use category_sets::{set_declared, set_edges};
+pub use cil_attrs as attrs;
 pub use expression::{Evaluator, Held, Valued, value};
 pub use in_order::Orders;
 pub use level::{Level, Range};

@@ -6,9 +6,9 @@ ghost use Rattle.cil_syntax.specs.declared.kind.Keyword.TheVariants as keywords;
 ghost use Rattle.cil_syntax.specs.declared.kind.Kind.TheVariants as kinds;
 ghost use Rattle.cil_faults.specs.declared.code.FaultCode.TheVariants as causes;
 ghost use Rattle.cil_macros.specs.Items.{items_in, namespaces_in};
-ghost use Rattle.cil_names.specs.Rows.{IsTableOf};
-ghost use Rattle.cil_known.specs.Known.{IsKnown, enabled_in, row_in};
-ghost use Rattle.cil_known.specs.Numbers.{AreApart, names_of};
+ghost use Rattle.cil_attrs.specs.names.Rows.{IsTableOf};
+ghost use Rattle.cil_attrs.specs.known.Known.{IsKnown, enabled_in, row_in};
+ghost use Rattle.cil_attrs.specs.known.Numbers.{AreApart, names_of};
 ghost use Rattle.cil_mls.specs.OrderFaults.{AreOrders, OrderFault};
 ghost use Rattle.cil_mls.specs.OrderParts.{AreBothOrders, AreFew, AreJudged, IsOn, IsOrderOf, JudgedFault, LimitFault, MlsTwice, OrdersFault, SpaceFault};
 
@@ -20,8 +20,8 @@ use crate::level_names::MOST_SENSITIVITIES;
 use crate::policy_faults::{check_limit, ordered, policy_fault};
 use crate::switch::is_switched;
 use cil_attrs::Limit;
+use cil_attrs::known::{Known, Sections};
 use cil_faults::{Both, Failure, FaultCode, together};
-use cil_known::{Known, Sections};
 use cil_macros::Instances;
 use std::alloc::Global;
 

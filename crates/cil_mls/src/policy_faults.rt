@@ -7,7 +7,7 @@ ghost use Rattle.cil_faults.specs.Refusal.{Answers, Fails};
 ghost use Rattle.cil_faults.specs.Reported.{global_fault};
 ghost use Rattle.cil_macros.specs.Item.{Item, OptSet};
 ghost use Rattle.cil_syntax.specs.declared.kind.Kind as kinds;
-ghost use Rattle.cil_names.specs.Declarations.{nowhere};
+ghost use Rattle.cil_attrs.specs.names.Declarations.{nowhere};
 ghost use Rattle.cil_attrs.specs.SetFaults.{IsItemName};
 ghost use Rattle.cil_mls.specs.PolicyFaults.{IsOrdered, IsOver};
 

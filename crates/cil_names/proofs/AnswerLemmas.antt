@@ -12,20 +12,20 @@ use Rattle.cil_faults.specs.Namespaces.{Namespace}
 use Rattle.cil_syntax.specs.Scopes.{asked, spaces_asked, ScopedWord}
 use Rattle.std.proofs.Math.Bool.{or-false}
 use Rattle.cil_names.specs.declared.entry.Entry.{Entry}
-use Rattle.cil_blocks.specs.declared.namespaces.Space.{Space}
+use Rattle.cil_macros.specs.blocks.declared.namespaces.Space.{Space}
 use Rattle.cil_names.specs.Entries.{AreEntries, AreOrdered, IsAnswer, IsNamed, candidate, candidates_of, is_declared_at, is_declared_in, is_entry_of, by_name_cmp, key_of, listed, place_where}
 use Rattle.cil_syntax.specs.NameSpaces.{rank}
 use Rattle.cil_macros.specs.Item.{Item, OptSet}
 use Rattle.cil_names.specs.Resolves.{found_in, has}
 use Rattle.cil_syntax.specs.Kinds.{is_wanted, kind_number, kinds_of}
 use Rattle.cil_syntax.proofs.KindLemmas.{one_kind}
-use Rattle.cil_blocks.specs.Namespaces.{AreNamespaces}
+use Rattle.cil_macros.specs.blocks.Namespaces.{AreNamespaces}
 use Rattle.cil_names.proofs.DeclLemmas.{has_as}
 use Rattle.cil_names.proofs.CandidateLemmas.{parts_of, place_is}
 use Rattle.cil_names.proofs.OrderLemmas.{key_total, one_key}
 use Rattle.std.proofs.lemmas.Option.{slice_get_within}
 use Rattle.cil_base.proofs.SearchLemmas.{one_number}
-use Rattle.cil_blocks.proofs.NamespaceLemmas.{same_number}
+use Rattle.cil_macros.proofs.blocks_lemmas.NamespaceLemmas.{same_number}
 
 -- ---- the kinds of one word are of one name space
 

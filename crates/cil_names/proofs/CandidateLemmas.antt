@@ -14,13 +14,13 @@ use Rattle.cil_syntax.specs.Scopes.{ScopedWord, asked, names_backwards, same_spa
 use Rattle.std.proofs.lemmas.Option.{same_Some}
 use Rattle.cil_syntax.proofs.DecidedEquality.{spaces_decide}
 use Rattle.cil_names.specs.declared.entry.Entry.{Entry}
-use Rattle.cil_blocks.specs.declared.namespaces.Space.{Space}
+use Rattle.cil_macros.specs.blocks.declared.namespaces.Space.{Space}
 use Rattle.cil_names.specs.Entries.{AreOrdered, HasNoEntry, IsEntryAt, candidate, candidates_of, is_entry, listed, is_entry_of, place_where, HasNoEntryIn, IsEntryIn}
 use Rattle.cil_syntax.specs.Kinds.{is_wanted}
-use Rattle.cil_blocks.specs.Namespaces.{AreNamespaces, HasNoNumber, IsNumber, space_at}
+use Rattle.cil_macros.specs.blocks.Namespaces.{AreNamespaces, HasNoNumber, IsNumber, space_at}
 use Rattle.cil_macros.specs.Asked.{IsAskedAt, IsAskedNowhere}
 use Rattle.cil_names.proofs.EntryLemmas.{parts_fit, they_fit}
-use Rattle.cil_blocks.proofs.NamespaceLemmas.{same_number}
+use Rattle.cil_macros.proofs.blocks_lemmas.NamespaceLemmas.{same_number}
 
 module _ {X : Type 0} (p : X → Bool) where
   passed : (x : X) (xs : List X) → p x ≡ true → place_where p (x ∷ xs) ≡ Some 0

@@ -19,7 +19,7 @@ use Rattle.cil_syntax.specs.Scopes.{asked, same_space, ScopedWord}
 use Rattle.cil_syntax.proofs.DecidedEquality.{spaces_decide}
 use Rattle.cil_names.proofs.DeclareDecided.{symbol_by}
 use Rattle.cil_names.specs.declared.entry.Entry.{Entry}
-use Rattle.cil_blocks.specs.declared.namespaces.Space.{Space}
+use Rattle.cil_macros.specs.blocks.declared.namespaces.Space.{Space}
 use Rattle.cil_names.specs.Classes.{is_class_at}
 use Rattle.cil_names.specs.Declarations.{Declaration, IsDeclaration, Symbol, by, declared_by}
 use Rattle.cil_names.specs.Entries.{AreEntries, HasNoEntry, IsAnswer, IsEntryAt, IsNamed}
@@ -28,12 +28,12 @@ use Rattle.cil_names.specs.Symbols.{symbol_of}
 use Rattle.cil_names.specs.PermissionWords.{has_permission_at, listed_of}
 use Rattle.cil_names.specs.Resolves.{Permission as APermission, fits, found_in, gives_permission, has, has_permission, is_class_common, listed_permissions, lists_named, lists_permission, names_outside, resolves, shares_permission, shares_words}
 use Rattle.cil_syntax.specs.Kinds.{is_wanted}
-use Rattle.cil_blocks.specs.Namespaces.{AreNamespaces, space_at}
+use Rattle.cil_macros.specs.blocks.Namespaces.{AreNamespaces, space_at}
 use Rattle.cil_names.specs.Unresolved.{ArePermissions, listed_at}
 use Rattle.cil_names.proofs.CandidateLemmas.{parts_of}
 use Rattle.cil_names.proofs.DeclLemmas.{has_true}
 use Rattle.cil_names.proofs.EntryLemmas.{parts_fit, they_fit}
-use Rattle.cil_blocks.proofs.NamespaceLemmas.{same_number}
+use Rattle.cil_macros.proofs.blocks_lemmas.NamespaceLemmas.{same_number}
 
 -- ---- the list of an entry
 

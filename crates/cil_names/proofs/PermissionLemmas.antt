@@ -39,10 +39,10 @@ use Rattle.cil_syntax.specs.Scopes.{ScopedWord, same_space}
 use Rattle.cil_syntax.proofs.DecidedEquality.{spaces_decide}
 use Rattle.std.proofs.Math.Bool.{or-false}
 use Rattle.cil_names.specs.declared.entry.Entry.{Entry}
-use Rattle.cil_blocks.specs.declared.namespaces.Space.{Space}
+use Rattle.cil_macros.specs.blocks.declared.namespaces.Space.{Space}
 use Rattle.cil_names.specs.Declarations.{Declaration, Symbol, content_of, declarations, declared_by}
 use Rattle.cil_names.specs.Entries.{AreOrdered, HasNoEntry, IsEntryAt, is_entry}
-use Rattle.cil_blocks.specs.Entries.{statement_at}
+use Rattle.cil_macros.specs.blocks.Entries.{statement_at}
 use Rattle.cil_macros.specs.Item.{Item, all_replaced, is_enabled, names_in, nobody, replaced}
 use Rattle.cil_macros.specs.Items.{Kept, item_at, items_in, may_say_lists, placed_at, says_as_written, word_at}
 use Rattle.cil_macros.specs.Walks.{written_in}
@@ -52,10 +52,10 @@ use Rattle.cil_names.specs.Symbols.{symbol_of}
 use Rattle.cil_names.specs.Permissions.{AreEmpty, AreListed, AreOwn, DeclaresList, DeclaresNoList, SaysList, SaysNoList, has_list, list_sign, listed_by}
 use Rattle.cil_names.specs.Resolves.{fits, gives_permission, listed_permissions, lists_permission}
 use Rattle.cil_syntax.specs.Kinds.{is_wanted}
-use Rattle.cil_blocks.specs.Namespaces.{AreNamespaces, IsNumber, space_at}
+use Rattle.cil_macros.specs.blocks.Namespaces.{AreNamespaces, IsNumber, space_at}
 use Rattle.cil_names.specs.Unresolved.{listed_at}
 use Rattle.cil_names.proofs.EntryLemmas.{parts_fit, they_fit}
-use Rattle.cil_blocks.proofs.NamespaceLemmas.{same_number}
+use Rattle.cil_macros.proofs.blocks_lemmas.NamespaceLemmas.{same_number}
 
 -- ---- the names among terms
 

@@ -12,7 +12,7 @@ use Rattle.std.specs.Option.{is_some, option_map_or}
 use Rattle.std.proofs.lemmas.Bool.{cases_Bool, true≢false}
 use Rattle.std.proofs.lemmas.Option.{same_Some}
 use Rattle.cil_names.specs.declared.entry.Entry.{Entry}
-use Rattle.cil_blocks.specs.declared.namespaces.Space.{Space}
+use Rattle.cil_macros.specs.blocks.declared.namespaces.Space.{Space}
 use Rattle.cil_names.specs.Entries.{AreEntries, IsAnswer, IsNamed, candidates_of, is_declared_at, is_declared_in, listed}
 use Rattle.cil_macros.specs.Item.{Item, OptSet, nobody}
 use Rattle.cil_base.specs.Searches.{or_second}
@@ -21,7 +21,7 @@ use Rattle.cil_names.specs.Laws.{WantedMeansWhatItNames}
 use Rattle.cil_names.specs.Meanings.{meant}
 use Rattle.cil_names.specs.PermissionWords.{IsAnswerFor, class_with, has_permission_at, wanted_meaning}
 use Rattle.cil_names.specs.Resolves.{Wanted, Word as AWord, Permission as APermission, resolves}
-use Rattle.cil_blocks.specs.Namespaces.{AreNamespaces}
+use Rattle.cil_macros.specs.blocks.Namespaces.{AreNamespaces}
 use Rattle.cil_names.proofs.AnswerLemmas.{answer_is}
 use Rattle.cil_names.proofs.ListedLemmas.{asked_of_class, asked_of_none}
 

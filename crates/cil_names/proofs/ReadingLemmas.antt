@@ -12,9 +12,9 @@ use Rattle.cil_syntax.specs.Said.{all_said, args_of}
 use Rattle.cil_syntax.specs.Scopes.{ScopedWord}
 use Rattle.cil_syntax.specs.Terms.{Term, Leaf, Name, Form, Terms, nil, cons}
 use Rattle.cil_syntax.specs.Written.{Written}
-use Rattle.cil_blocks.specs.declared.namespaces.Space.{Space}
-use Rattle.cil_blocks.specs.Contents.{Standing}
-use Rattle.cil_blocks.specs.Namespaces.{space_at}
+use Rattle.cil_macros.specs.blocks.declared.namespaces.Space.{Space}
+use Rattle.cil_macros.specs.blocks.Contents.{Standing}
+use Rattle.cil_macros.specs.blocks.Namespaces.{space_at}
 use Rattle.cil_macros.specs.declared.placed_word.PlacedWord.{PlacedWord}
 use Rattle.cil_macros.specs.Calls.{is_call}
 use Rattle.cil_macros.specs.Item.{all_replaced, all_words_in, replaced, words_in}

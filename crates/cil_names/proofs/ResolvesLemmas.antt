@@ -9,8 +9,8 @@ use Rattle.cil_base.specs.Lists.{contains_cases, contains_none}
 use Rattle.cil_base.specs.MadeLists.{from_flat}
 use Rattle.cil_base.specs.Searches.{found_is}
 use Rattle.cil_syntax.specs.Scopes.{ScopedWord, asked, spaces_asked}
-use Rattle.cil_blocks.specs.declared.namespaces.Space.{Space}
-use Rattle.cil_blocks.specs.Namespaces.{AreNamespaces}
+use Rattle.cil_macros.specs.blocks.declared.namespaces.Space.{Space}
+use Rattle.cil_macros.specs.blocks.Namespaces.{AreNamespaces}
 use Rattle.cil_macros.specs.Item.{Item, OptSet, nobody}
 use Rattle.cil_names.specs.declared.entry.Entry.{Entry}
 use Rattle.cil_names.specs.Entries.{AreEntries, candidate, candidates_of, is_declared_at, is_entry_of, listed}

@@ -11,12 +11,12 @@ use Rattle.cil_syntax.specs.declared.term.Word.{Word}
 use Rattle.cil_syntax.specs.Scopes.{IsTaken, asked, names_backwards}
 use Rattle.cil_syntax.proofs.AskedLemmas.{is_global, is_parted}
 use Rattle.cil_names.specs.declared.entry.Entry.{Entry}
-use Rattle.cil_blocks.specs.declared.namespaces.Space.{Space}
+use Rattle.cil_macros.specs.blocks.declared.namespaces.Space.{Space}
 use Rattle.cil_macros.specs.Asked.{numbers_asked}
 use Rattle.cil_names.specs.Entries.{candidate, candidates_of, listed, scope_of, scoped}
 use Rattle.cil_names.specs.Sought.{could_name}
-use Rattle.cil_blocks.specs.Namespaces.{space_at}
-use Rattle.cil_blocks.proofs.NamespaceLemmas.{global_at}
+use Rattle.cil_macros.specs.blocks.Namespaces.{space_at}
+use Rattle.cil_macros.proofs.blocks_lemmas.NamespaceLemmas.{global_at}
 
 -- what was asked in one namespace is what the word could name there
 pub asked_there : (ss : List Space) (es : List Entry) (w : Word) (global : Bool) (path : List ℕ) → IsTaken w.bytes global path → (k : ℕ) (r : Option ℕ)

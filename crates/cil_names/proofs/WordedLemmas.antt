@@ -14,7 +14,7 @@ use Rattle.cil_syntax.specs.Program.{program_of, said_by_program, statement_of}
 use Rattle.cil_syntax.specs.Said.{all_said, said_of}
 use Rattle.cil_syntax.specs.Written.{Statement, Written}
 use Rattle.cil_syntax.proofs.SaidLemmas.{form_said, leaf_said, name_said}
-use Rattle.cil_blocks.specs.Entries.{nothing, statement_at}
+use Rattle.cil_macros.specs.blocks.Entries.{nothing, statement_at}
 use Rattle.cil_syntax.specs.Forms.{is_class_list}
 use Rattle.cil_syntax.specs.Scopes.{ScopedWord}
 use Rattle.cil_syntax.specs.Terms.{Term, Leaf, Name, Form, Terms, nil, cons}

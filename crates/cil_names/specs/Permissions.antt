@@ -15,8 +15,8 @@ use Rattle.cil_syntax.specs.declared.term.Word.{Word}
 use Rattle.cil_syntax.specs.Kinds.{is_wanted}
 use Rattle.cil_syntax.specs.Forms.{listed_behind_name}
 use Rattle.cil_syntax.specs.Said.{all_said, args_of}
-use Rattle.cil_blocks.specs.declared.namespaces.Space.{Space}
-use Rattle.cil_blocks.specs.Namespaces.{AreNamespaces, IsNumber}
+use Rattle.cil_macros.specs.blocks.declared.namespaces.Space.{Space}
+use Rattle.cil_macros.specs.blocks.Namespaces.{AreNamespaces, IsNumber}
 use Rattle.cil_names.specs.declared.entry.Entry.{Entry}
 use Rattle.cil_names.specs.declared.permissions.Listing.{Listing}
 use Rattle.cil_names.specs.Entries.{AreOrdered, IsEntryAt}
@@ -25,7 +25,7 @@ use Rattle.cil_faults.specs.declared.spot.Spot.{Spot}
 use Rattle.cil_syntax.specs.Scopes.{ScopedWord}
 use Rattle.cil_syntax.specs.Terms.{Name, Terms, cons}
 use Rattle.cil_syntax.specs.Spelling.{same_bytes}
-use Rattle.cil_blocks.specs.Entries.{statement_at}
+use Rattle.cil_macros.specs.blocks.Entries.{statement_at}
 use Rattle.cil_macros.specs.Item.{Item, all_replaced, names_in}
 use Rattle.cil_macros.specs.Items.{Kept, item_at, namespaces_in, word_at}
 use Rattle.cil_macros.specs.Walks.{written_in}

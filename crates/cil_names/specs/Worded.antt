@@ -2,7 +2,7 @@
 use Rattle.std.specs.Prelude.{◌≡◌, Bool, true, false, ◌&&◌, ◌||◌, List, [], ◌∷◌, map}
 use Rattle.cil_syntax.specs.Program.{statement_of}
 use Rattle.cil_syntax.specs.Written.{Statement}
-use Rattle.cil_blocks.specs.Places.{statements_in}
+use Rattle.cil_macros.specs.blocks.Places.{statements_in}
 use Rattle.cil_macros.specs.Calls.{is_call}
 use Rattle.cil_macros.specs.Item.{all_words_in}
 use Rattle.cil_macros.specs.Items.{Kept, says_as_written}

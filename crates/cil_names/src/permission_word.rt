@@ -9,7 +9,7 @@ ghost use Rattle.std.specs.Ordering.{on};
 ghost use Rattle.cil_base.specs.Lists.{text_cmp};
 ghost use Rattle.cil_base.specs.declared.bytes.Bytes.{Bytes as Text};
 ghost use Rattle.cil_syntax.specs.Spelling.{same_bytes};
-ghost use Rattle.cil_blocks.specs.declared.namespaces.Space.{Space};
+ghost use Rattle.cil_macros.specs.blocks.declared.namespaces.Space.{Space};
 ghost use Rattle.cil_syntax.specs.Scopes.{ScopedWord};
 ghost use Rattle.cil_names.specs.Classes.{IsClassFor, IsClassOf, is_class_at};
 ghost use Rattle.cil_names.specs.declared.entry.Entry.{Entry as Declared};
@@ -17,7 +17,7 @@ ghost use Rattle.cil_names.specs.Entries.{AreEntries, AreOrdered, by_name_cmp, c
 ghost use Rattle.cil_macros.specs.Item.{Item, nobody};
 ghost use Rattle.cil_names.specs.Meanings.{meant};
 ghost use Rattle.cil_names.specs.PermissionWords.{class_with as the_class_with, has_permission_at, listed_of, number_with};
-ghost use Rattle.cil_blocks.specs.Namespaces.{AreNamespaces};
+ghost use Rattle.cil_macros.specs.blocks.Namespaces.{AreNamespaces};
 ghost use Rattle.cil_names.specs.Unresolved.{ArePermissions, listed_at as listed_for};
 
 use crate::by_name::entry_in;
@@ -26,7 +26,7 @@ use crate::guesses::Guesses;
 use crate::look::resolve;
 use crate::name_places::{place_among, place_guessed};
 use crate::shared::where_always;
-use cil_blocks::Namespaces;
+use cil_macros::blocks::Namespaces;
 use cil_syntax::{Bytes, Sign, Word};
 
 /// The number of the class or class map that a class word names. Classes do not hang on optionals, so the word is looked

@@ -3,7 +3,7 @@
 ghost use Rattle.std.specs.Prelude.{◌≡◌, ◌<◌, IfOk, length, map, ℕ};
 ghost use Rattle.cil_syntax.specs.Program.{statement_of};
 ghost use Rattle.cil_syntax.specs.Said.{all_said, said_of};
-ghost use Rattle.cil_blocks.specs.Places.{statements_in};
+ghost use Rattle.cil_macros.specs.blocks.Places.{statements_in};
 ghost use Rattle.cil_macros.specs.Item.{all_words_in, words_in};
 ghost use Rattle.cil_macros.specs.Items.{items_in, placed_at};
 ghost use Rattle.cil_names.specs.Worded.{AreWorded, has_some, is_worded};

@@ -9,10 +9,10 @@ use Rattle.std.proofs.lemmas.Bool.{cases_lt}
 use Rattle.std.proofs.lemmas.Cmp.{nat_cmp_total}
 use Rattle.std.proofs.lemmas.Nat.Bits.{bit_at-trailing_zeros}
 use Rattle.cil_base.specs.Paths.{below_by, equal_from, less_from}
-use Rattle.cil_classes.proofs.BitLemmas.{none_set, set_in_both, set_is_one}
+use Rattle.cil_index.proofs.classes_lemmas.BitLemmas.{none_set, set_in_both, set_is_one}
 use Rattle.cil_sets.specs.Answers.{IsLeastCommon, IsNextFrom}
-use Rattle.cil_rules.specs.Covers.{Reaches}
-use Rattle.cil_rules.specs.Rule.{Rule, Types, Itself}
+use Rattle.cil_index.specs.rules.Covers.{Reaches}
+use Rattle.cil_index.specs.rules.Rule.{Rule, Types, Itself}
 use Rattle.cil_neverallow.specs.declared.overlap.Climb.{Climb}
 use Rattle.cil_neverallow.specs.declared.overlap.Ends.{Ends}
 use Rattle.cil_neverallow.specs.declared.overlap.Overlap.{Overlap}

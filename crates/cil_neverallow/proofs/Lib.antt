@@ -8,3 +8,4 @@ pub mod SectionLemmas
 pub mod StatementLemmas
 pub mod TieLemmas
 pub mod ViolationLemmas
+pub use Rattle.cil_index.proofs.rules_lemmas

@@ -5,18 +5,18 @@ use Rattle.std.proofs.Common.{Bool, zero, suc, ◌≡◌, ℕ, ◌+◌, ◌<◌,
 use Rattle.std.proofs.lemmas.List.{take_all}
 use Rattle.cil_base.specs.Lists.{Lists, contains_cases, contains_none}
 use Rattle.cil_base.specs.MadeLists.{contains_map, from_map}
-use Rattle.cil_classes.proofs.BitLemmas.{none_set, set_in_both}
+use Rattle.cil_index.proofs.classes_lemmas.BitLemmas.{none_set, set_in_both}
 use Rattle.cil_sets.specs.Answers.{IsNextFrom}
-use Rattle.cil_rules.specs.Covers.{HasCover, Reaches}
-use Rattle.cil_conditions.specs.declared.branch.Branch.{Branch}
-use Rattle.cil_conditions.specs.Active.{is_active}
-use Rattle.cil_conditions.specs.Order.{branch_cmp}
-use Rattle.cil_rules.specs.Kept.{branch_named, rule_named, set_named, target_named}
-use Rattle.cil_rules.specs.Order.{rule_cmp}
-use Rattle.cil_rules.specs.Rule.{Rule}
-use Rattle.cil_rules.specs.declared.rule.NamedRule.{NamedRule}
-use Rattle.cil_rules.specs.declared.rule.Reach.{Reach}
-use Rattle.cil_rules.specs.declared.rule.Reach.TheVariants as reaches
+use Rattle.cil_index.specs.rules.Covers.{HasCover, Reaches}
+use Rattle.cil_index.specs.conditions.declared.branch.Branch.{Branch}
+use Rattle.cil_index.specs.conditions.Active.{is_active}
+use Rattle.cil_index.specs.conditions.Order.{branch_cmp}
+use Rattle.cil_index.specs.rules.Kept.{branch_named, rule_named, set_named, target_named}
+use Rattle.cil_index.specs.rules.Order.{rule_cmp}
+use Rattle.cil_index.specs.rules.Rule.{Rule}
+use Rattle.cil_index.specs.rules.declared.rule.NamedRule.{NamedRule}
+use Rattle.cil_index.specs.rules.declared.rule.Reach.{Reach}
+use Rattle.cil_index.specs.rules.declared.rule.Reach.TheVariants as reaches
 use Rattle.cil_neverallow.specs.declared.overlap.Overlap.{Overlap}
 use Rattle.cil_neverallow.specs.Overlaps.{HaveIt, Holds, IsMet, IsOverlap}
 use Rattle.cil_neverallow.specs.Stated.{Stated}

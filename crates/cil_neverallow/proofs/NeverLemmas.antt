@@ -19,15 +19,15 @@ use Rattle.cil_names.specs.Declarations.{Declared, Symbol, name_of}
 use Rattle.cil_known.specs.Known.{IsKnown, IsNumbered, enabled_in}
 use Rattle.cil_known.specs.Members.{StandsFor}
 use Rattle.cil_known.specs.Numbers.{AreApart}
-use Rattle.cil_classes.specs.ClassRows.{AreClasses}
-use Rattle.cil_classes.specs.Given.{HasPair}
-use Rattle.cil_classes.specs.declared.row.Class.{Class}
-use Rattle.cil_classes.proofs.PartLemmas.{one_row}
-use Rattle.cil_rules.specs.CoveredBy.{IsCoveredBy, IsTarget}
-use Rattle.cil_rules.specs.Covers.{Reaches}
-use Rattle.cil_rules.specs.Records.{ignored, Case, CaseBy, HasNumber, HasTarget, IsRuleOf, IsTargetOf}
-use Rattle.cil_rules.specs.Rule.{Rule, Target, Types, Itself}
-use Rattle.cil_rules.proofs.RuleLemmas.{pair_declared}
+use Rattle.cil_index.specs.classes.ClassRows.{AreClasses}
+use Rattle.cil_index.specs.classes.Given.{HasPair}
+use Rattle.cil_index.specs.classes.declared.row.Class.{Class}
+use Rattle.cil_index.proofs.classes_lemmas.PartLemmas.{one_row}
+use Rattle.cil_index.specs.rules.CoveredBy.{IsCoveredBy, IsTarget}
+use Rattle.cil_index.specs.rules.Covers.{Reaches}
+use Rattle.cil_index.specs.rules.Records.{ignored, Case, CaseBy, HasNumber, HasTarget, IsRuleOf, IsTargetOf}
+use Rattle.cil_index.specs.rules.Rule.{Rule, Target, Types, Itself}
+use Rattle.cil_index.proofs.rules_lemmas.RuleLemmas.{pair_declared}
 use Rattle.cil_neverallow.specs.declared.overlap.Overlap.{Overlap}
 use Rattle.cil_neverallow.specs.NeverFaults.{AreBoth, IsLeast, Quadruple, names_of}
 use Rattle.cil_neverallow.specs.Numbered.{AreNumbersOf}

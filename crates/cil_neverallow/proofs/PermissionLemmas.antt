@@ -8,12 +8,12 @@ use Rattle.std.proofs.lemmas.List.{get_or_default, get_or-set_other, get_or-set_
 use Rattle.std.proofs.lemmas.List.Elements.{Contains-append_cases}
 use Rattle.cil_base.specs.Lists.{contains_cases, contains_none}
 use Rattle.cil_base.specs.MadeLists.{from_map}
-use Rattle.cil_classes.proofs.BitLemmas.{none_set, set_in_both, set_in_either}
+use Rattle.cil_index.proofs.classes_lemmas.BitLemmas.{none_set, set_in_both, set_in_either}
 use Rattle.cil_faults.specs.declared.fault.Fault.{Fault}
 use Rattle.cil_macros.specs.Item.{Item}
-use Rattle.cil_rules.specs.Kept.{rule_named}
-use Rattle.cil_rules.specs.Rule.{Rule}
-use Rattle.cil_rules.specs.declared.rule.NamedRule.{NamedRule}
+use Rattle.cil_index.specs.rules.Kept.{rule_named}
+use Rattle.cil_index.specs.rules.Rule.{Rule}
+use Rattle.cil_index.specs.rules.declared.rule.NamedRule.{NamedRule}
 use Rattle.cil_neverallow.specs.declared.overlap.Overlap.{Overlap}
 use Rattle.cil_neverallow.specs.Overlaps.{IsOverlap}
 use Rattle.cil_neverallow.specs.declared.forbidden.View.{View}

@@ -21,11 +21,11 @@ use Rattle.cil_known.specs.Known.{IsKnown, IsNumbered, enabled_in}
 use Rattle.cil_known.specs.Numbers.{AreApart, has_section, spelled_of}
 use Rattle.cil_names.specs.Symbols.{symbol_of}
 use Rattle.cil_names.specs.Resolves.{has_permission}
-use Rattle.cil_classes.specs.ClassRows.{AreClasses}
-use Rattle.cil_classes.specs.Given.{HasPair, of_class, of_map, of_name}
-use Rattle.cil_classes.specs.Values.{in_value_there}
-use Rattle.cil_classes.specs.declared.row.Class.{Class}
-use Rattle.cil_classes.proofs.ValueLemmas.{value_there}
+use Rattle.cil_index.specs.classes.ClassRows.{AreClasses}
+use Rattle.cil_index.specs.classes.Given.{HasPair, of_class, of_map, of_name}
+use Rattle.cil_index.specs.classes.Values.{in_value_there}
+use Rattle.cil_index.specs.classes.declared.row.Class.{Class}
+use Rattle.cil_index.proofs.classes_lemmas.ValueLemmas.{value_there}
 
 -- a permission that is given is one of its class
 pub pair_permission : (xs : List Item) (s : OptSet) (cp : Term ScopedWord) (c : Symbol) (p : List ℕ) → HasPair xs s cp c p → has_permission xs c p ≡ true

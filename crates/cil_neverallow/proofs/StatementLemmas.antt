@@ -8,10 +8,10 @@ use Rattle.cil_base.specs.Lists.{contains_cases, contains_here, contains_later, 
 use Rattle.cil_base.specs.MadeLists.{from_map}
 use Rattle.cil_base.specs.Records.{AreRecordsOf}
 use Rattle.cil_macros.specs.Item.{Item}
-use Rattle.cil_rules.specs.Behind.{AreBehind}
-use Rattle.cil_rules.specs.Kept.{rule_named}
-use Rattle.cil_rules.specs.Rule.{Rule}
-use Rattle.cil_rules.specs.declared.rule.NamedRule.{NamedRule}
+use Rattle.cil_index.specs.rules.Behind.{AreBehind}
+use Rattle.cil_index.specs.rules.Kept.{rule_named}
+use Rattle.cil_index.specs.rules.Rule.{Rule}
+use Rattle.cil_index.specs.rules.declared.rule.NamedRule.{NamedRule}
 use Rattle.cil_neverallow.specs.declared.statements.Run.{Run}
 use Rattle.cil_neverallow.specs.Permissions.{AreApart}
 use Rattle.cil_neverallow.specs.Stated.{AreHereOr, AreKept, AreRunsIn, AreStatements, IsAdded, IsRunIn, Keeps, Stated, nothing_stated, stated_at, stated_in}

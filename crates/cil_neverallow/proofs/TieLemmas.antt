@@ -17,9 +17,9 @@ use Rattle.cil_known.specs.declared.known.Known.{Known}
 use Rattle.cil_names.specs.Declarations.{name_of}
 use Rattle.cil_known.specs.Known.{IsKnown, enabled_in}
 use Rattle.cil_known.specs.Numbers.{AreApart}
-use Rattle.cil_classes.specs.ClassRows.{AreClasses}
-use Rattle.cil_rules.specs.CoveredBy.{IsCoveredBy}
-use Rattle.cil_rules.specs.Records.{ignored, CaseBy, IsRuleOf}
+use Rattle.cil_index.specs.classes.ClassRows.{AreClasses}
+use Rattle.cil_index.specs.rules.CoveredBy.{IsCoveredBy}
+use Rattle.cil_index.specs.rules.Records.{ignored, CaseBy, IsRuleOf}
 use Rattle.cil_neverallow.specs.declared.overlap.Overlap.{Overlap}
 use Rattle.cil_neverallow.specs.declared.forbidden.View.{View}
 use Rattle.cil_neverallow.specs.NeverFaults.{IsLeast, NeverFault, Quadruple, told, violated}

@@ -1,7 +1,7 @@
 -- The types that two rules reach together, and the least of them. No other crate needs these words.
 use Rattle.std.specs.Prelude.{◌≡◌, ◌⊎◌, ℕ, ◌<◌, ◌≤◌, List, Contains}
-use Rattle.cil_rules.specs.Covers.{Reaches}
-use Rattle.cil_rules.specs.Rule.{Rule}
+use Rattle.cil_index.specs.rules.Covers.{Reaches}
+use Rattle.cil_index.specs.rules.Rule.{Rule}
 use Rattle.cil_neverallow.specs.declared.overlap.Climb.{Climb}
 use Rattle.cil_neverallow.specs.declared.overlap.Ends.{Ends}
 

@@ -5,8 +5,8 @@ use Rattle.std.specs.Ordering.{on}
 use Rattle.std.specs.declared.cmp.Ordering.{Ordering}
 use Rattle.std.specs.declared.cmp.Ordering.TheVariants.{Less, Equal, Greater}
 use Rattle.cil_base.specs.Lists.{text_cmp}
-use Rattle.cil_rules.specs.Covers.{Reaches}
-use Rattle.cil_rules.specs.Rule.{Rule}
+use Rattle.cil_index.specs.rules.Covers.{Reaches}
+use Rattle.cil_index.specs.rules.Rule.{Rule}
 use Rattle.cil_neverallow.specs.declared.overlap.Overlap.{Overlap}
 
 -- ---- the order

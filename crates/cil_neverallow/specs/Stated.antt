@@ -2,9 +2,9 @@
 use Rattle.std.specs.Prelude.{◌≡◌, ◌⊎◌, ◌++◌, ◌<◌, ◌≤◌, ℕ, List, [], ◌∷◌, Contains, get_or, length, map, slice_range}
 use Rattle.cil_base.specs.Records.{AreRecordsOf}
 use Rattle.cil_macros.specs.Item.{Item}
-use Rattle.cil_rules.specs.Kept.{rule_named}
-use Rattle.cil_rules.specs.Rule.{Rule}
-use Rattle.cil_rules.specs.declared.rule.NamedRule.{NamedRule}
+use Rattle.cil_index.specs.rules.Kept.{rule_named}
+use Rattle.cil_index.specs.rules.Rule.{Rule}
+use Rattle.cil_index.specs.rules.declared.rule.NamedRule.{NamedRule}
 use Rattle.cil_neverallow.specs.Permissions.{AreApart}
 use Rattle.cil_neverallow.specs.declared.statements.Part.{Part}
 use Rattle.cil_neverallow.specs.declared.statements.Run.{Run}

@@ -5,9 +5,9 @@ use Rattle.cil_faults.specs.declared.fault.Fault.{Fault}
 use Rattle.cil_faults.specs.declared.spot.Spot.{Spot}
 use Rattle.cil_faults.specs.Reported.{fault_at}
 use Rattle.cil_macros.specs.Item.{Item}
-use Rattle.cil_classes.specs.declared.row.Class.{Class}
-use Rattle.cil_rules.specs.Kept.{rule_named}
-use Rattle.cil_rules.specs.Rule.{Rule}
+use Rattle.cil_index.specs.classes.declared.row.Class.{Class}
+use Rattle.cil_index.specs.rules.Kept.{rule_named}
+use Rattle.cil_index.specs.rules.Rule.{Rule}
 use Rattle.cil_neverallow.specs.declared.overlap.Overlap.{Overlap}
 use Rattle.cil_neverallow.specs.declared.forbidden.View.{View}
 use Rattle.cil_neverallow.specs.Overlaps.{IsLeastOf, IsOverlap}

@@ -1,8 +1,8 @@
 //! The rules of allow statements by their index, and what one question to it says of a neverallow statement.
 
 ghost use Rattle.std.specs.Prelude.{◌≡◌, ℕ, [], Contains, IfOk, IfSome, IsFalse, map, true, false};
-ghost use Rattle.cil_rules.specs.Covers.{Reaches};
-ghost use Rattle.cil_rules.specs.Kept.{rule_named, set_named, target_named};
+ghost use Rattle.cil_index.specs.rules.Covers.{Reaches};
+ghost use Rattle.cil_index.specs.rules.Kept.{rule_named, set_named, target_named};
 ghost use Rattle.cil_neverallow.specs.declared.overlap.Overlap.{Overlap as AnOverlap};
 ghost use Rattle.cil_neverallow.specs.Overlaps.{IsMet, IsOverlap};
 ghost use Rattle.cil_neverallow.specs.Violations.{AreAlways, AreAmong};
@@ -11,9 +11,9 @@ use crate::forbidden::View;
 use crate::overlap::set_at;
 use crate::statements::Statements;
 use cil_base::NoMemory;
-use cil_conditions::Settings;
+use cil_index::conditions::Settings;
+use cil_index::rules::{NamedRule, Reach};
 use cil_index::{Asked, NamedRules, Sections};
-use cil_rules::{NamedRule, Reach};
 use cil_sets::Numbers;
 use std::alloc::Global;
 

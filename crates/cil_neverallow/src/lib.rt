@@ -15,4 +15,6 @@ mod permissions;
 mod statements;
 mod told;
 
+pub use cil_index as index_crate;
+pub use cil_index::rules;
 pub use forbidden::{View, violations};

@@ -1,11 +1,11 @@
 //! The least source, target, class and permission that the rules of two statements cover.
 
 ghost use Rattle.std.specs.Prelude.{◌≡◌, ◌≤◌, [], ℕ, MatchOption, bit_and, map, option_map};
-ghost use Rattle.cil_rules.specs.Kept.{rule_named, set_named};
+ghost use Rattle.cil_index.specs.rules.Kept.{rule_named, set_named};
 ghost use Rattle.cil_neverallow.specs.Ends.{AreFirstReached, AreInAll, AreInBoth, AreReached, IsClimb, IsLeastIn, end_at};
 ghost use Rattle.cil_neverallow.specs.Overlaps.{BothHold, IsLeastFor, IsMet, IsOverlap, lesser_of, overlap_cmp, pick};
 
-use cil_rules::{NamedRule, Reach};
+use cil_index::rules::{NamedRule, Reach};
 use cil_sets::Numbers;
 use std::cmp::Ordering;
 

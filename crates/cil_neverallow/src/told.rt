@@ -10,8 +10,8 @@ use crate::forbidden::View;
 use crate::overlap::Overlap;
 use cil_base::{Bytes, NoMemory};
 use cil_blocks::spelled::spelled;
-use cil_classes::Class;
 use cil_faults::{Fault, FaultCode, Spot, push_fault_in};
+use cil_index::classes::Class;
 use cil_macros::Instances;
 use std::alloc::Global;
 

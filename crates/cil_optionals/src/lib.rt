@@ -25,5 +25,6 @@ mod times;
 
 pub use base::base_faults;
 pub use chosen::{Chosen, Counted, check, greatest, greatest_counted, greatest_of};
+pub use cil_words as words;
 pub use lines::{OptionalLine, WhyLine, optional_lines, why_lines};
 pub use reason::Reason;

@@ -4,7 +4,7 @@ use Rattle.cil_conditions.specs.declared.token.Token.{Token}
 use Rattle.cil_conditions.specs.declared.token.Token.TheVariants as tokens
 use Rattle.cil_format.specs.declared.fault.TableFault.TheVariants.{Short, NotCanonical, OutOfRange}
 use Rattle.cil_format.specs.Format.{many_at, rising_at}
-use Rattle.cil_rules.specs.Rule.{Rule, Types, Itself}
+use Rattle.cil_index.specs.rules.Rule.{Rule, Types, Itself}
 use Rattle.cil_rule_bytes.specs.Conditions.{boolean, opposite, trees_in}
 use Rattle.cil_rule_bytes.specs.Layout.{Limits, condition, rule, rules, rule_sections, tree}
 

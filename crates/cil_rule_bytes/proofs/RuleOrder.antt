@@ -16,8 +16,8 @@ use Rattle.cil_format.specs.Fields.{below, set, small}
 use Rattle.cil_format.specs.Format.{rise}
 use Rattle.cil_format.proofs.SortedRecords.{is_less, sorted_records}
 use Rattle.cil_format.proofs.Orders.{order16, order32, set_order}
-use Rattle.cil_rules.specs.Order.{in_branch_cmp, rule_cmp, rule_total, set_fields, target_fields}
-use Rattle.cil_rules.specs.Rule.{Rule, Target, Types, Itself}
+use Rattle.cil_index.specs.rules.Order.{in_branch_cmp, rule_cmp, rule_total, set_fields, target_fields}
+use Rattle.cil_index.specs.rules.Rule.{Rule, Target, Types, Itself}
 use Rattle.cil_rule_bytes.specs.Layout.{Limits, branch, condition, on_class, rule, target, tokens_bytes}
 use Rattle.cil_rule_bytes.proofs.SpellLemmas.{condition_bytes, condition_small, fits_expression}
 use Rattle.cil_rule_bytes.proofs.TokenOrder.{then_assoc, tokens_order}

@@ -11,10 +11,10 @@ use Rattle.cil_conditions.specs.declared.branch.Branch.{Branch}
 use Rattle.cil_format.proofs.Bytes.{IsBytes}
 use Rattle.cil_index.specs.declared.section.NamedRules.{NamedRules}
 use Rattle.cil_index.specs.Sections.{RuleSections}
-use Rattle.cil_rules.specs.declared.rule.NamedRule.{NamedRule}
-use Rattle.cil_rules.specs.Kept.{rule_named}
-use Rattle.cil_rules.specs.Order.{rule_cmp, rule_total}
-use Rattle.cil_rules.specs.Rule.{Rule}
+use Rattle.cil_index.specs.rules.declared.rule.NamedRule.{NamedRule}
+use Rattle.cil_index.specs.rules.Kept.{rule_named}
+use Rattle.cil_index.specs.rules.Order.{rule_cmp, rule_total}
+use Rattle.cil_index.specs.rules.Rule.{Rule}
 use Rattle.cil_rule_bytes.specs.Handed.{AreAllNamed, AreNamed, AreRising, all_branches, all_sets, branches_in, sets_in}
 use Rattle.cil_rule_bytes.specs.Layout.{Limits, rule_sections}
 use Rattle.cil_rule_bytes.proofs.Exact.{sections_exact}

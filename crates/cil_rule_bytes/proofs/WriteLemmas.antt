@@ -9,7 +9,7 @@ use Rattle.cil_conditions.specs.declared.token.Token.{Token}
 use Rattle.cil_format.specs.Fields.{set}
 use Rattle.cil_format.proofs.OutLemmas.{two_pieces}
 use Rattle.cil_index.specs.Sections.{RuleSections}
-use Rattle.cil_rules.specs.Rule.{Rule, Target, Types, Itself}
+use Rattle.cil_index.specs.rules.Rule.{Rule, Target, Types, Itself}
 use Rattle.cil_rule_bytes.specs.Layout.{Limits, branch, condition, rule, rules, rule_sections, target}
 use Rattle.cil_rule_bytes.specs.Spelled.{branch_bytes, rule_bytes}
 

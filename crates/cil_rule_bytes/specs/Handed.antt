@@ -5,10 +5,10 @@ use Rattle.std.specs.List.Sorted.{IsStrictlySortedBy}
 use Rattle.cil_conditions.specs.declared.branch.Branch.{Branch}
 use Rattle.cil_index.specs.declared.section.NamedRules.{NamedRules}
 use Rattle.cil_index.specs.Sections.{RuleSections}
-use Rattle.cil_rules.specs.declared.rule.NamedRule.{NamedRule}
-use Rattle.cil_rules.specs.Kept.{rule_named}
-use Rattle.cil_rules.specs.Order.{rule_cmp}
-use Rattle.cil_rules.specs.Rule.{Rule}
+use Rattle.cil_index.specs.rules.declared.rule.NamedRule.{NamedRule}
+use Rattle.cil_index.specs.rules.Kept.{rule_named}
+use Rattle.cil_index.specs.rules.Order.{rule_cmp}
+use Rattle.cil_index.specs.rules.Rule.{Rule}
 use Rattle.cil_rule_bytes.specs.Layout.{types_of}
 
 -- the branch, if there is one

@@ -10,7 +10,7 @@ use Rattle.cil_format.specs.declared.fault.TableFault.TheVariants.{NotCanonical,
 use Rattle.cil_format.specs.Fields.{below, mask, set, small}
 use Rattle.cil_format.specs.Format.{Format, as_type, both, checked, choose, keyed, number, only, refused, section, spelled_by}
 use Rattle.cil_index.specs.Sections.{RuleSections}
-use Rattle.cil_rules.specs.Rule.{Rule, Target, Types, Itself}
+use Rattle.cil_index.specs.rules.Rule.{Rule, Target, Types, Itself}
 use Rattle.cil_rule_bytes.specs.Conditions.{Condition, boolean, opposite, joined, Junction, conjoined, disjoined, parted, matched, unmatched, junction_token, tokens_of, tree_in}
 
 -- what the sections before say of the numbers in rules: how many types and booleans there are, and how many permissions each class has

@@ -1,5 +1,5 @@
 -- Rules as they were read. No other crate needs these words.
-use Rattle.cil_rules.specs.Rule.{Target, Types, Itself}
+use Rattle.cil_index.specs.rules.Rule.{Target, Types, Itself}
 use Rattle.cil_rule_bytes.specs.declared.rule.ReadTarget.{ReadTarget}
 use Rattle.cil_rule_bytes.specs.declared.rule.ReadTarget.TheVariants as targets
 

@@ -4,7 +4,7 @@ use Rattle.std.specs.Int.{w16, w32, to_be_bytes}
 use Rattle.cil_conditions.specs.declared.branch.Branch.{Branch}
 use Rattle.cil_conditions.specs.Order.{branch_tag}
 use Rattle.cil_format.specs.Fields.{set}
-use Rattle.cil_rules.specs.Rule.{Rule}
+use Rattle.cil_index.specs.rules.Rule.{Rule}
 use Rattle.cil_rule_bytes.specs.Layout.{target, tokens_bytes}
 
 abbrev pub branch_bytes : Option Branch → List ℕ

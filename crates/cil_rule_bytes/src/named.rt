@@ -6,13 +6,13 @@ ghost use Rattle.std.specs.List.Sorted.{IsStrictlySortedBy};
 ghost use Rattle.cil_base.specs.Lists.{Lists};
 ghost use Rattle.cil_conditions.specs.declared.branch.Branch as branches;
 ghost use Rattle.cil_conditions.specs.Order.{branch_cmp};
-ghost use Rattle.cil_rules.specs.Kept.{branch_named};
+ghost use Rattle.cil_index.specs.rules.Kept.{branch_named};
 ghost use Rattle.cil_rule_bytes.specs.Handed.{AreNamed, IsNamed, branches_in, sets_in};
 
 use crate::rule::{ReadRule, ReadTarget};
 use cil_base::{NoMemory, short};
 use cil_conditions::Branch;
-use cil_rules::{NamedRule, Reach};
+use cil_index::rules::{NamedRule, Reach};
 use cil_sets::Numbers;
 use std::alloc::Global;
 

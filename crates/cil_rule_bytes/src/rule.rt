@@ -34,7 +34,7 @@ pub struct ReadRule {
 }
 
 impl Model for ReadRule {
-    ghost use Rattle.cil_rules.specs.Rule.{Rule};
+    ghost use Rattle.cil_index.specs.rules.Rule.{Rule};
     ghost use Rattle.cil_rule_bytes.specs.Records.{target_of};
 
     ghost Value = { Rule };

@@ -1,7 +1,7 @@
 -- What is put for the branch of a statement.
 use Rattle.std.specs.Prelude.{Bool, true, MatchOption, Option, None, Some, slice_get}
 use Rattle.std.proofs.Common.{◌≡◌, ◌<◌, ℕ, suc, List, length, subst, sym}
-use Rattle.cil_blocks.specs.Contents.{Branch as Said, is_conditional}
+use Rattle.cil_classes.specs.blocks.Contents.{Branch as Said, is_conditional}
 use Rattle.cil_conditions.specs.declared.branch.Branch.{Branch}
 use Rattle.cil_conditions.specs.Conditions.{IsSaid, NamesBooleans}
 use Rattle.cil_conditions.specs.Numbered.{AreBranchesOf, NumberedBranches, number_in}

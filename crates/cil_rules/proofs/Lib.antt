@@ -4,3 +4,4 @@ pub mod CoverLemmas
 pub mod TargetLemmas
 pub mod LikeLemmas
 pub mod RuleLemmas
+pub use Rattle.cil_classes.proofs as classes_lemmas

@@ -8,7 +8,7 @@ use Rattle.cil_syntax.specs.declared.term.Op.TheVariants as ops
 use Rattle.cil_syntax.specs.Terms.{Term, Leaf, Name, Form, nil, cons}
 use Rattle.cil_classes.specs.declared.row.Class.{Class}
 use Rattle.cil_rules.specs.Rule.{Rule, Target, Types, Itself}
-use Rattle.cil_blocks.specs.Contents.{Branch as Said}
+use Rattle.cil_classes.specs.blocks.Contents.{Branch as Said}
 use Rattle.cil_conditions.specs.Conditions.{IsSaid}
 use Rattle.cil_conditions.specs.Spelled.{IsBranchOf}
 use Rattle.cil_conditions.specs.declared.branch.Branch.{Branch}

@@ -13,6 +13,7 @@ mod rule;
 mod sides;
 mod statement;
 
+pub use cil_classes as classes;
 pub use cover::covers;
 pub use gather::rules;
 pub use rule::{NamedRule, Reach, Rules};

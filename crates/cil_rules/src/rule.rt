@@ -1,7 +1,7 @@
 //! Rules as they are handed on, by declared names.
 
 ghost use Rattle.std.specs.Prelude.{◌≡◌, ◌<◌, length};
-ghost use Rattle.cil_blocks.specs.Namespaces.{IsNumber};
+ghost use Rattle.cil_classes.specs.blocks.Namespaces.{IsNumber};
 ghost use Rattle.cil_macros.specs.Items.{item_at, items_in, namespaces_in};
 ghost use Rattle.cil_rules.specs.Listed.{rule_at};
 

@@ -8,3 +8,4 @@ pub mod SessionLemmas
 pub mod SpelledLemmas
 pub mod StreamLemmas
 pub mod TurnLemmas
+pub use Rattle.cil_host.proofs.avc_lemmas

@@ -1,7 +1,7 @@
 -- Worked tables and their bytes, computed.
 use Rattle.std.proofs.Common.{◌≡◌, ℕ, Bool, true, false, List, [], ◌∷◌, ◌++◌, length, Some, None, Ok, Err, refl}
 use Rattle.std.specs.Prelude.{codes}
-use Rattle.cil_rules.specs.Rule.{Types}
+use Rattle.cil_rule_bytes.specs.rules.Rule.{Types}
 use Rattle.cil_tables.specs.Table.{Table}
 use Rattle.cil_format.specs.declared.fault.TableFault.TheVariants.{BadMagic, BadVersion, Short, NotCanonical, OutOfRange, Trailing}
 use Rattle.cil_format.specs.Format.{many_at, rising_at, each_at}

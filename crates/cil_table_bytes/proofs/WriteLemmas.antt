@@ -5,12 +5,12 @@ use Rattle.std.proofs.Math.Seq.{drop-cons}
 use Rattle.std.proofs.lemmas.Grind.{flat_map-append}
 use Rattle.std.proofs.lemmas.List.{append-nil, drop_all, length-append, length-map}
 use Rattle.cil_base.specs.declared.memory.NoMemory.{NoMemory}
-use Rattle.cil_constraints.specs.declared.mask.Constraint.{Constraint}
-use Rattle.cil_index.specs.Sections.{RuleSections}
+use Rattle.cil_constraint_bytes.specs.constraints_crate.declared.mask.Constraint.{Constraint}
+use Rattle.cil_rule_bytes.specs.index_crate.Sections.{RuleSections}
 use Rattle.cil_tables.specs.declared.tables.Link.{Link}
 use Rattle.cil_tables.specs.Holders.{link_to, links_from}
 use Rattle.cil_tables.specs.Table.{Table}
-use Rattle.cil_labels.specs.LevelTable.{LevelTable}
+use Rattle.cil_label_bytes.specs.labels.LevelTable.{LevelTable}
 use Rattle.cil_label_bytes.specs.Layout.{labels}
 use Rattle.cil_rule_bytes.specs.Layout.{rule_sections}
 use Rattle.cil_constraint_bytes.specs.Layout.{constraints}

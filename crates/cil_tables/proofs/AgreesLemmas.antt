@@ -10,21 +10,21 @@ use Rattle.cil_syntax.specs.declared.kind.Kind.TheVariants as kinds
 use Rattle.cil_syntax.specs.Terms.{Term, Leaf, Name, Form}
 use Rattle.cil_constraints.specs.declared.expr.Context.{Context as Numbers}
 use Rattle.cil_classes.specs.declared.row.Class.{Class}
-use Rattle.cil_rules.specs.Rule.{Rule, Target, Types, Itself}
+use Rattle.cil_neverallow.specs.rules.Rule.{Rule, Target, Types, Itself}
 use Rattle.cil_tables.specs.Agrees.{Agrees, BarsAs, CoverAs, SameContext, SamePermission}
 use Rattle.cil_known.specs.Says.{AreJoined}
 use Rattle.cil_constraints.specs.Contexts.{Context}
-use Rattle.cil_ranges.proofs.GroundLemmas.{one_ground}
-use Rattle.cil_labels.specs.Labels.{BeginsWith}
+use Rattle.cil_level_rows.proofs.ranges_lemmas.GroundLemmas.{one_ground}
+use Rattle.cil_level_rows.specs.labels.Labels.{BeginsWith}
 use Rattle.cil_level_rows.specs.Rows.{IsClearedBy, IsLabelBy}
 use Rattle.cil_level_rows.proofs.AlikeLaws.{clears_alike, reads_alike}
 use Rattle.cil_tables.specs.Contexts.{IsValid}
 use Rattle.cil_conditions.proofs.ConditionLemmas.{branches_agree, chosen_is_said}
 use Rattle.cil_conditions.specs.Conditions.{IsChosen, Settings}
 use Rattle.cil_conditions.specs.Spelled.{AreSameSettings}
-use Rattle.cil_rules.specs.Covered.{IsCovered}
-use Rattle.cil_rules.specs.CoveredBy.{IsTarget}
-use Rattle.cil_rules.specs.Records.{Case, HasNumber, HasTarget, IsTargetOf}
+use Rattle.cil_neverallow.specs.rules.Covered.{IsCovered}
+use Rattle.cil_neverallow.specs.rules.CoveredBy.{IsTarget}
+use Rattle.cil_neverallow.specs.rules.Records.{Case, HasNumber, HasTarget, IsTargetOf}
 use Rattle.cil_tables.specs.Links.{IsLink}
 use Rattle.cil_tables.specs.Compiled.{AreRulesOf, IsTable}
 use Rattle.cil_tables.specs.Named.{IsNameOf}
@@ -36,10 +36,10 @@ use Rattle.cil_syntax.specs.Scopes.{ScopedWord}
 use Rattle.cil_tables.specs.Aliases.{NamesType}
 use Rattle.cil_tables.specs.Meaning.{Bars, IsContext, IsTransition, IsTypeText}
 use Rattle.cil_tables.specs.RoleChanges.{IsBarred, MayChange}
-use Rattle.cil_rules.specs.Covers.{HasCover, Reaches}
+use Rattle.cil_neverallow.specs.rules.Covers.{HasCover, Reaches}
 use Rattle.cil_known.specs.Members.{StandsFor}
 use Rattle.cil_classes.specs.Given.{HasPair}
-use Rattle.cil_rules.proofs.RuleLemmas.{pair_declared}
+use Rattle.cil_neverallow.proofs.rules_lemmas.RuleLemmas.{pair_declared}
 use Rattle.cil_tables.specs.Table.{Table, boolean_names}
 use Rattle.cil_tables.proofs.ConstraintLemmas.{meets_as}
 use Rattle.cil_tables.proofs.SymbolLemmas.{HaveOneSymbol, one_class_number, one_number, one_numbered}

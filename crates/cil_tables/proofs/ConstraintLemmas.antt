@@ -14,7 +14,7 @@ use Rattle.cil_known.specs.declared.known.Known.{Known}
 use Rattle.cil_known.specs.Known.{AreStanding, IsNumbered}
 use Rattle.cil_classes.specs.declared.row.Class.{Class}
 use Rattle.cil_classes.specs.Given.{HasPair}
-use Rattle.cil_rules.proofs.RuleLemmas.{pair_declared}
+use Rattle.cil_neverallow.proofs.rules_lemmas.RuleLemmas.{pair_declared}
 use Rattle.cil_constraints.specs.declared.expr.Context.{Context as Numbers}
 use Rattle.cil_constraints.specs.declared.mask.Constraint.{Constraint}
 use Rattle.cil_constraints.specs.declared.push.Standing.{Standing}

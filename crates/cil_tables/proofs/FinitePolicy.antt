@@ -10,7 +10,7 @@ use Rattle.cil_syntax.specs.declared.kind.Kind.TheVariants as kinds
 use Rattle.cil_syntax.specs.declared.term.Op.TheVariants as ops
 use Rattle.cil_faults.specs.declared.spot.Spot.{Spot}
 use Rattle.cil_syntax.specs.Terms.{Term, Leaf, Name, Form, Terms, nil, cons}
-use Rattle.cil_rules.specs.Records.{HasNumber}
+use Rattle.cil_neverallow.specs.rules.Records.{HasNumber}
 use Rattle.cil_tables.specs.Named.{IsNameOf}
 use Rattle.cil_known.specs.Known.{IsNumbered}
 use Rattle.cil_syntax.specs.Scopes.{ScopedWord}

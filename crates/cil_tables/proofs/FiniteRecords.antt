@@ -14,7 +14,7 @@ use Rattle.cil_blocks.specs.Contents.{Branch}
 use Rattle.cil_conditions.specs.declared.token.Token.{Token}
 use Rattle.cil_conditions.specs.declared.token.Token.TheVariants as tokens
 use Rattle.cil_conditions.specs.Conditions.{FormNamesBooleans, IsSaid, NamesBooleans, op_of, turns}
-use Rattle.cil_rules.specs.Records.{Case, HasTarget, IsCase, spelled}
+use Rattle.cil_neverallow.specs.rules.Records.{Case, HasTarget, IsCase, spelled}
 use Rattle.cil_tables.specs.Links.{IsLink}
 use Rattle.cil_known.specs.Known.{IsNumbered}
 use Rattle.cil_syntax.proofs.DecidedEquality.{keyword_is, op_is}

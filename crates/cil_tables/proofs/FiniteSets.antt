@@ -18,7 +18,7 @@ use Rattle.cil_macros.specs.Item.{Item, OptSet}
 use Rattle.cil_names.specs.Declarations.{nowhere}
 use Rattle.cil_known.specs.Members.{space_of}
 use Rattle.cil_known.specs.Spaces.{Sets, any_sets}
-use Rattle.cil_attrs.specs.SetFaults.{AliasTwice, IsItemName, OpenAlias, SetFault, alias_cycle, alias_open, alias_twice, limit_of, many, set_cycle}
+use Rattle.cil_level_rows.specs.attrs.SetFaults.{AliasTwice, IsItemName, OpenAlias, SetFault, alias_cycle, alias_open, alias_twice, limit_of, many, set_cycle}
 use Rattle.cil_classes.specs.Faults.{ClassFault}
 use Rattle.cil_tables.specs.Named.{IsNameOf}
 use Rattle.cil_tables.specs.Booleans.{HasManyBooleans}
@@ -27,7 +27,7 @@ use Rattle.cil_tables.specs.SetsStep.{MembersFault, SetsFault}
 use Rattle.cil_tables.proofs.Finite.{Finite, finite_either, finite_if, finite_listing, finite_same}
 use Rattle.cil_tables.proofs.FiniteFaults.{decided_less, finite_class}
 use Rattle.cil_tables.proofs.FinitePolicy.{finite_names}
-use Rattle.cil_mls.specs.OrderFaults.{OrderFault}
+use Rattle.cil_level_rows.specs.mls.OrderFaults.{OrderFault}
 use Rattle.cil_level_rows.proofs.NoLevels.{no_order_fault}
 use Rattle.cil_tables.proofs.NoGifts.{HaveFlatKeywords, declares_no_alias, gives_none, is_alias, none_depends, without_levels}
 

@@ -13,9 +13,9 @@ use Rattle.cil_tables.specs.declared.tables.Alias.{Alias}
 use Rattle.cil_tables.specs.declared.tables.Boolean.{Boolean}
 use Rattle.cil_tables.specs.declared.tables.Link.{Link}
 use Rattle.cil_tables.specs.Booleans.{is_default_on}
-use Rattle.cil_index.specs.Sections.{RuleSections}
+use Rattle.cil_neverallow.specs.index_crate.Sections.{RuleSections}
 use Rattle.cil_tables.specs.Links.{IsLink}
-use Rattle.cil_labels.specs.LevelTable.{LevelTable}
+use Rattle.cil_level_rows.specs.labels.LevelTable.{LevelTable}
 use Rattle.cil_level_rows.specs.Rows.{IsLevelTable}
 use Rattle.cil_tables.specs.Compiled.{AreConstraints, AreRules, IsTable}
 use Rattle.cil_constraints.specs.declared.mask.Constraint.{Constraint}

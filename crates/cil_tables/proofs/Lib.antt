@@ -25,3 +25,6 @@ pub mod SpaceLemmas
 pub mod SymbolLemmas
 pub mod TablesExist
 pub mod WideClasses
+pub use Rattle.cil_constraints.proofs as constraints_crate_lemmas
+pub use Rattle.cil_level_rows.proofs.mls_lemmas
+pub use Rattle.cil_neverallow.proofs as neverallow_lemmas

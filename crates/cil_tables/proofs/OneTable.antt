@@ -10,15 +10,15 @@ use Rattle.cil_base.specs.Lists.{contains_here, contains_later}
 use Rattle.cil_base.specs.Places.{cons_head, cons_tail, get_contains}
 use Rattle.cil_syntax.specs.declared.kind.Keyword.{Keyword}
 use Rattle.cil_syntax.specs.declared.kind.Keyword.TheVariants as keywords
-use Rattle.cil_index.specs.Sections.{RuleSections}
+use Rattle.cil_neverallow.specs.index_crate.Sections.{RuleSections}
 use Rattle.cil_syntax.specs.declared.kind.Kind.TheVariants as kinds
 use Rattle.cil_faults.specs.Fails.{AreFaults}
 use Rattle.cil_faults.specs.FaultOrder.{fault_cmp, fault_total}
 use Rattle.cil_syntax.specs.Terms.{Term, Leaf, Name, Form}
 use Rattle.cil_classes.specs.declared.row.Class.{Class}
-use Rattle.cil_rules.specs.Rule.{Rule, Target, Types, Itself}
+use Rattle.cil_neverallow.specs.rules.Rule.{Rule, Target, Types, Itself}
 use Rattle.cil_tables.specs.Agrees.{Compiles}
-use Rattle.cil_rules.specs.Records.{Case, HasBit, HasNumber, IsRuleOf, IsTargetOf, spelled}
+use Rattle.cil_neverallow.specs.rules.Records.{Case, HasBit, HasNumber, IsRuleOf, IsTargetOf, spelled}
 use Rattle.cil_tables.specs.Links.{IsLink}
 use Rattle.cil_tables.specs.Compiled.{AreConstraints, AreRules, AreRulesOf, IsTable}
 use Rattle.cil_tables.specs.Named.{IsNameOf}
@@ -40,7 +40,7 @@ use Rattle.cil_conditions.proofs.ConditionLemmas.{has_one_spelling}
 use Rattle.cil_conditions.specs.Spelled.{HasOneNumber}
 use Rattle.cil_tables.specs.Table.{Table, alias_cmp, alias_total, boolean_names, link_cmp, link_total, names_in}
 use Rattle.cil_classes.specs.Row.{class_cmp}
-use Rattle.cil_rules.specs.Order.{rule_cmp, rule_total, same_rules}
+use Rattle.cil_neverallow.specs.rules.Order.{rule_cmp, rule_total, same_rules}
 use Rattle.cil_tables.proofs.ConstraintLemmas.{constraints_moved}
 use Rattle.cil_tables.proofs.OneConstraints.{one_constraints, same_masks}
 use Rattle.cil_tables.proofs.SymbolLemmas.{one_class_number, one_number}

@@ -4,8 +4,8 @@ use Rattle.cil_syntax.specs.declared.kind.Keyword.{Keyword}
 use Rattle.cil_syntax.specs.declared.kind.Keyword.TheVariants as keywords
 use Rattle.cil_syntax.specs.declared.kind.Kind.TheVariants as kinds
 use Rattle.cil_known.specs.Members.{gives_role_attributes, gives_type_aliases, gives_type_attributes, gives_user_attributes, space_of}
-use Rattle.cil_attrs.specs.Givers.{HasKinds}
-use Rattle.cil_attrs.specs.NameSpaces.{roles_kinds, types_kinds, users_kinds}
+use Rattle.cil_level_rows.specs.attrs.Givers.{HasKinds}
+use Rattle.cil_level_rows.specs.attrs.NameSpaces.{roles_kinds, types_kinds, users_kinds}
 
 by_aliases : (w : Keyword) → gives_type_aliases w ≡ true → w ≡ keywords.TypeAliasActual
 by_aliases keywords.TypeAliasActual e = refl

@@ -17,17 +17,17 @@ use Rattle.cil_base.specs.Paths.{same_by}
 use Rattle.cil_base.specs.Listing.{Listing}
 use Rattle.cil_syntax.specs.declared.kind.Keyword.{Keyword}
 use Rattle.cil_syntax.specs.declared.kind.Keyword.TheVariants as keywords
-use Rattle.cil_index.specs.Sections.{RuleSections}
+use Rattle.cil_neverallow.specs.index_crate.Sections.{RuleSections}
 use Rattle.cil_syntax.specs.declared.kind.Kind.TheVariants as kinds
 use Rattle.cil_syntax.specs.Terms.{Term, Leaf, Name, Form}
 use Rattle.cil_classes.specs.declared.row.Class.{Class}
-use Rattle.cil_rules.specs.Rule.{Rule, Target, Types, Itself}
+use Rattle.cil_neverallow.specs.rules.Rule.{Rule, Target, Types, Itself}
 use Rattle.cil_blocks.specs.Contents.{Branch as Said}
 use Rattle.cil_conditions.specs.declared.branch.Branch.{Branch}
 use Rattle.cil_conditions.specs.Conditions.{IsSaid}
 use Rattle.cil_conditions.proofs.ConditionLemmas.{said_is_spelled}
 use Rattle.cil_conditions.specs.Spelled.{AreAllNumbered, IsBranchOf}
-use Rattle.cil_rules.specs.Records.{Case, HasBit, HasNumber, HasTarget, IsCase, IsRuleOf, IsTargetOf, spelled}
+use Rattle.cil_neverallow.specs.rules.Records.{Case, HasBit, HasNumber, HasTarget, IsCase, IsRuleOf, IsTargetOf, spelled}
 use Rattle.cil_tables.specs.Links.{IsLink}
 use Rattle.cil_tables.specs.Booleans.{AreBooleans, is_default_on}
 use Rattle.cil_tables.specs.declared.tables.Boolean.{Boolean}
@@ -51,7 +51,7 @@ use Rattle.cil_level_rows.specs.NoLevels.{empty_table}
 use Rattle.cil_level_rows.proofs.NoLevels.{is_empty_table}
 use Rattle.cil_tables.proofs.NoGifts.{HaveFlatKeywords, no_alias, without_levels}
 use Rattle.cil_classes.specs.Row.{class_cmp}
-use Rattle.cil_rules.specs.Order.{rule_cmp, rule_total, one_rule}
+use Rattle.cil_neverallow.specs.rules.Order.{rule_cmp, rule_total, one_rule}
 use Rattle.cil_classes.proofs.BitLemmas.{none_set, set_in_either, set_is_one}
 use Rattle.cil_tables.proofs.CompileLemmas.{rising_by}
 use Rattle.cil_tables.proofs.Finite.{Finite, chosen, finite_listing}

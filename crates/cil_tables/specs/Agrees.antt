@@ -11,15 +11,15 @@ use Rattle.cil_constraints.specs.Permitted.{AllMet}
 use Rattle.cil_syntax.specs.Scopes.{ScopedWord}
 use Rattle.cil_classes.specs.declared.row.Class.{Class}
 use Rattle.cil_tables.specs.Contexts.{IsValid}
-use Rattle.cil_rules.specs.Covered.{IsCovered}
+use Rattle.cil_neverallow.specs.rules.Covered.{IsCovered}
 use Rattle.cil_known.specs.Known.{IsNumbered}
 use Rattle.cil_tables.specs.Compiled.{IsTable}
 use Rattle.cil_names.specs.Declarations.{Declared, Symbol, name_of}
 use Rattle.cil_tables.specs.Faults.{ArePolicyFaults}
 use Rattle.cil_macros.specs.Item.{Item, OptSet}
 use Rattle.cil_optionals.specs.Policy.{ArePolicy}
-use Rattle.cil_rules.specs.Covers.{HasCover}
-use Rattle.cil_rules.specs.Rule.{Rule}
+use Rattle.cil_neverallow.specs.rules.Covers.{HasCover}
+use Rattle.cil_neverallow.specs.rules.Rule.{Rule}
 use Rattle.cil_tables.specs.Meaning.{Bars, IsContext}
 use Rattle.cil_tables.specs.RoleChanges.{IsBarred}
 use Rattle.cil_conditions.specs.Conditions.{Settings}

@@ -11,19 +11,19 @@ use Rattle.cil_macros.specs.Item.{Item, OptSet}
 use Rattle.cil_tables.specs.Aliases.{IsAlias}
 use Rattle.cil_tables.specs.Booleans.{AreBooleans}
 use Rattle.cil_tables.specs.Named.{IsNameOf}
-use Rattle.cil_index.specs.Sections.{RuleSections}
+use Rattle.cil_neverallow.specs.index_crate.Sections.{RuleSections}
 use Rattle.cil_tables.specs.Table.{Table, alias_cmp, boolean_names, link_cmp, names_in}
 use Rattle.cil_syntax.specs.declared.kind.Kind.{Kind}
 use Rattle.cil_constraints.specs.declared.mask.Constraint.{Constraint}
 use Rattle.cil_constraints.specs.Compiled.{IsConstraintCase, IsConstraintOf}
 use Rattle.cil_constraints.specs.Order.{constraint_cmp}
 use Rattle.cil_classes.specs.Row.{class_cmp}
-use Rattle.cil_rules.specs.Order.{rule_cmp}
-use Rattle.cil_rules.specs.Rule.{Rule}
+use Rattle.cil_neverallow.specs.rules.Order.{rule_cmp}
+use Rattle.cil_neverallow.specs.rules.Rule.{Rule}
 use Rattle.cil_classes.specs.ClassRows.{IsRowOf}
 use Rattle.cil_tables.specs.Links.{IsLink}
 use Rattle.cil_level_rows.specs.Rows.{IsLevelTable}
-use Rattle.cil_rules.specs.Records.{IsCase, IsRuleOf, spelled}
+use Rattle.cil_neverallow.specs.rules.Records.{IsCase, IsRuleOf, spelled}
 
 -- the rules of enabled statements with this first word, by the sections of types, classes and booleans
 abbrev pub AreRulesOf : List Item → OptSet → List (List ℕ) → List Class → List (List ℕ) → Keyword → List Rule → Type 0

@@ -9,10 +9,10 @@ use Rattle.cil_tables.specs.Aliases.{NamesType}
 use Rattle.cil_tables.specs.Meaning.{object_role}
 use Rattle.cil_known.specs.Says.{AreJoined}
 use Rattle.cil_constraints.specs.Contexts.{Context}
-use Rattle.cil_mls.specs.OrderFaults.{Switches}
-use Rattle.cil_ranges.specs.Levels.{Ground}
-use Rattle.cil_ranges.specs.Steps.{IsGround}
-use Rattle.cil_labels.specs.Labels.{BeginsWith}
+use Rattle.cil_level_rows.specs.mls.OrderFaults.{Switches}
+use Rattle.cil_level_rows.specs.ranges.Levels.{Ground}
+use Rattle.cil_level_rows.specs.ranges.Steps.{IsGround}
+use Rattle.cil_level_rows.specs.labels.Labels.{BeginsWith}
 use Rattle.cil_level_rows.specs.Rows.{IsClearedBy, IsLabelBy}
 
 -- the user has the role

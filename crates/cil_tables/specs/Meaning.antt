@@ -3,11 +3,11 @@
 use Rattle.std.specs.Prelude.{◌≡◌, ◌⊎◌, ℕ, Bool, true, List, codes, Contains, slice_get, Some}
 use Rattle.cil_constraints.specs.declared.expr.Context.{Context}
 use Rattle.cil_constraints.specs.Permitted.{AllMet}
-use Rattle.cil_labels.specs.Labels.{BeginsWith}
-use Rattle.cil_labels.specs.LevelTable.{IsCleared, IsLabelOf}
+use Rattle.cil_level_rows.specs.labels.Labels.{BeginsWith}
+use Rattle.cil_level_rows.specs.labels.LevelTable.{IsCleared, IsLabelOf}
 use Rattle.cil_classes.specs.declared.row.Class.{Class}
 use Rattle.cil_tables.specs.Table.{Table}
-use Rattle.cil_rules.specs.Covers.{HasCover}
+use Rattle.cil_neverallow.specs.rules.Covers.{HasCover}
 
 -- the role that every policy has, and that every user may have with every type
 abbrev pub object_role : List ℕ

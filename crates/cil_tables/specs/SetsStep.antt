@@ -4,9 +4,9 @@ use Rattle.cil_faults.specs.declared.fault.Fault.{Fault}
 use Rattle.cil_syntax.specs.declared.kind.Kind.TheVariants as kinds
 use Rattle.cil_macros.specs.Item.{Item, OptSet}
 use Rattle.cil_known.specs.Members.{space_of}
-use Rattle.cil_attrs.specs.SetFaults.{SetFault}
+use Rattle.cil_level_rows.specs.attrs.SetFaults.{SetFault}
 use Rattle.cil_classes.specs.Faults.{ClassFault}
-use Rattle.cil_mls.specs.OrderFaults.{OrderFault}
+use Rattle.cil_level_rows.specs.mls.OrderFaults.{OrderFault}
 use Rattle.cil_tables.specs.Booleans.{HasManyBooleans}
 
 -- the faults of aliases and attributes, and of how many items there are: of users, roles and types

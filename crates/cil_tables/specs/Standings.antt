@@ -6,7 +6,7 @@ use Rattle.cil_macros.specs.Item.{Item}
 use Rattle.cil_known.specs.declared.known.Known.{Known}
 use Rattle.cil_known.specs.Known.{AreStanding, HaveMembers}
 use Rattle.cil_known.specs.Members.{space_of}
-use Rattle.cil_attrs.specs.Members.{AreMembers}
+use Rattle.cil_level_rows.specs.attrs.Members.{AreMembers}
 use Rattle.cil_tables.specs.declared.standings.AllMembers.{AllMembers}
 use Rattle.cil_tables.specs.declared.standings.Standings.{Standings}
 

@@ -14,8 +14,8 @@ use Rattle.cil_classes.specs.declared.row.Class.{Class}
 use Rattle.cil_tables.specs.declared.tables.Alias.{Alias}
 use Rattle.cil_tables.specs.declared.tables.Link.{Link}
 use Rattle.cil_tables.specs.declared.tables.Boolean.{Boolean}
-use Rattle.cil_index.specs.Sections.{RuleSections}
-use Rattle.cil_labels.specs.LevelTable.{LevelTable}
+use Rattle.cil_neverallow.specs.index_crate.Sections.{RuleSections}
+use Rattle.cil_level_rows.specs.labels.LevelTable.{LevelTable}
 use Rattle.cil_classes.specs.Row.{IsOrderlyClass, class_cmp}
 use Rattle.cil_constraints.specs.declared.mask.Constraint.{Constraint}
 use Rattle.cil_constraints.specs.Order.{constraint_cmp}

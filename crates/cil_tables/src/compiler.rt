@@ -14,7 +14,7 @@ ghost use Rattle.cil_names.specs.Rows.{IsTableOf};
 ghost use Rattle.cil_names.specs.Shared.{AreShared};
 ghost use Rattle.cil_names.specs.Faults.{ClashFault};
 ghost use Rattle.cil_faults.specs.declared.fault.Fault.{Fault as AFault};
-ghost use Rattle.cil_mls.specs.OrderFaults.{AreOrders};
+ghost use Rattle.cil_level_rows.specs.mls.OrderFaults.{AreOrders};
 ghost use Rattle.cil_names.specs.Unresolved.{ArePermissions};
 ghost use Rattle.cil_optionals.specs.Lines.{AreOptionalsOf, AreReasonsOf};
 ghost use Rattle.cil_tables.specs.CompileAnswer.{IsCompiled, IsCompiledOf, StandsIn};
@@ -38,15 +38,15 @@ use cil_declare::declare;
 use cil_faults::{Both, Failure, together};
 use cil_known::{Known, Numbering, Sections, numbered};
 use cil_level_rows::labels_of;
+use cil_level_rows::mls::{Orders, orders};
 use cil_macros::{Instances, expand};
-use cil_mls::{Orders, orders};
 use cil_modset::ModuleSet;
 use cil_names::{Lookup, Names as DeclaredNames, Shared, Words, commons_of, permissions_of};
+use cil_optionals::words::{asks_of, judged, settled};
 use cil_optionals::{
     Chosen, OptionalLine, Reason, WhyLine, greatest_of, optional_lines, why_lines,
 };
 use cil_syntax::written;
-use cil_words::{asks_of, judged, settled};
 use std::alloc::Global;
 
 /// What modules compile to.

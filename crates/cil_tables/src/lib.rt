@@ -20,7 +20,10 @@ mod sections;
 mod standings;
 pub mod tables;
 
+pub use cil_constraints as constraints_crate;
 pub use cil_constraints::Context;
+pub use cil_level_rows::{mls, ranges};
+pub use cil_neverallow::{index_crate, rules};
 pub use compiler::{Compiled, compile};
 pub use holders::Links;
 pub use tables::{Alias, Boolean, Link, TableParts, Tables};

@@ -3,8 +3,8 @@
 
 use crate::growths::FIRST;
 use crate::hosts::Hashers;
-use cil_avc::Avc;
-use cil_decide::{ClassId, Context, Decision, defaults, parse_context};
+use cil_server::avc::Avc;
+use cil_server::decide::{ClassId, Context, Decision, defaults, parse_context};
 use cil_tables::{Tables, compile};
 use cil_text_tests::set_of;
 use std::alloc::Global;

@@ -4,12 +4,12 @@
 use crate::growths::FIRST;
 use crate::hosts::{Hashers, new_host};
 use cil_base::Names;
-use cil_decide::{
+use cil_mls::Level;
+use cil_server::decide::{
     ClassId, Context, boolean_named, class_named, decide, defaults, parse_context, permission_at,
     permission_named,
 };
-use cil_host::{Host, QueryFault};
-use cil_mls::Level;
+use cil_server::host::{Host, QueryFault};
 use cil_syntax::Bytes;
 use cil_tables::{Tables, compile};
 use cil_text_tests::set_of;

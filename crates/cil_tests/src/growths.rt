@@ -2,8 +2,8 @@
 //! the call that lost it says so and has changed nothing, so each call is tried once more.
 
 use crate::hosts::{Hashers, new_host};
-use cil_host::{Host, QueryFault};
 use cil_modset::ModuleSet;
+use cil_server::host::{Host, QueryFault};
 use cil_server::{Counted, Served, serve};
 use cil_syntax::{Failure, FaultList, render};
 use cil_tables::compile;

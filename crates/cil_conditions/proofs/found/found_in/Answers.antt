@@ -1,8 +1,8 @@
 use Rattle.std.specs.Prelude.{option_map}
 use Rattle.std.proofs.Common.{◌≡◌, ◌<◌, ◌∙◌, ap, length, map, arith, subst}
 use Rattle.std.proofs.lemmas.Option.{slice_get-map}
-use Rattle.cil_macros.specs.Items.{item_at, items_in}
-use Rattle.cil_macros.proofs.ItemLemmas.{item_there}
+use Rattle.cil_known.specs.macros.Items.{item_at, items_in}
+use Rattle.cil_known.proofs.macros_lemmas.ItemLemmas.{item_there}
 use Rattle.cil_known.specs.Known.{row_in}
 use Rattle.cil_conditions.specs.Gathered.{AreFound}
 use Rattle.cil_conditions.proofs.FoundLemmas.{nothing_found}

@@ -1,7 +1,7 @@
 use Rattle.std.proofs.Common.{◌∙◌, ap, subst, sym}
 use Rattle.std.proofs.lemmas.Bool.{true≢false}
-use Rattle.cil_blocks.specs.Contents.{is_conditional}
-use Rattle.cil_macros.proofs.ItemsThere.{keyword_there}
+use Rattle.cil_known.specs.blocks.Contents.{is_conditional}
+use Rattle.cil_known.proofs.macros_lemmas.ItemsThere.{keyword_there}
 use Rattle.cil_conditions.specs.Gathered.{AreFound}
 use Rattle.cil_conditions.proofs.FoundLemmas.{condition_spelled, condition_unsaid, found_more, found_skipped, no_condition}
 use Rattle.cil_conditions.proofs.found.push_found.Goals as goal

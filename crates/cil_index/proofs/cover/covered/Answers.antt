@@ -1,5 +1,5 @@
 use Rattle.std.proofs.Common.{subst}
-use Rattle.cil_classes.proofs.BitLemmas.{none_set}
+use Rattle.cil_rules.proofs.classes_lemmas.BitLemmas.{none_set}
 use Rattle.cil_conditions.specs.Bits.{is_on}
 use Rattle.cil_index.specs.declared.asked.Asked.{Asked}
 use Rattle.cil_index.specs.Found.{AreAims, turned}

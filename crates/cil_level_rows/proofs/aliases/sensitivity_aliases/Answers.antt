@@ -5,8 +5,8 @@ use Rattle.cil_syntax.specs.declared.kind.Keyword.TheVariants as keywords
 use Rattle.cil_syntax.specs.declared.kind.Kind.TheVariants as kinds
 use Rattle.cil_macros.specs.Items.{items_in}
 use Rattle.cil_known.specs.Numbers.{names_of}
-use Rattle.cil_levels.specs.Begun.{AreOnce}
-use Rattle.cil_levels.proofs.PlaceLemmas.{are_few, are_once, number_within}
+use Rattle.cil_ranges.specs.levels_crate.Begun.{AreOnce}
+use Rattle.cil_ranges.proofs.levels_crate_lemmas.PlaceLemmas.{are_few, are_once, number_within}
 use Rattle.cil_level_rows.specs.AliasEntries.{ListsAliases}
 use Rattle.cil_level_rows.proofs.AliasLemmas.{or_so, rows_listed}
 use Rattle.cil_level_rows.proofs.aliases.sensitivity_aliases.Goals as goal

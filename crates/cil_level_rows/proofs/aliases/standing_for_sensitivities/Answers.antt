@@ -3,7 +3,7 @@ use Rattle.cil_syntax.specs.declared.kind.Kind.TheVariants as kinds
 use Rattle.cil_macros.specs.Items.{items_in}
 use Rattle.cil_known.specs.Members.{space_of}
 use Rattle.cil_known.specs.Numbers.{names_of}
-use Rattle.cil_attrs.specs.Members.{AreMembers}
+use Rattle.cil_ranges.specs.attrs.Members.{AreMembers}
 use Rattle.cil_mls.proofs.OrderSpaces.{sensitivities_space}
 use Rattle.cil_level_rows.proofs.aliases.standing_for_sensitivities.Goals as goal
 

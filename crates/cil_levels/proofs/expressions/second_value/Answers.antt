@@ -5,7 +5,7 @@ use Rattle.cil_syntax.specs.Said.{all_said, args_of}
 use Rattle.cil_macros.specs.Items.{item_at, items_in}
 use Rattle.cil_macros.proofs.ItemLemmas.{item_there}
 use Rattle.cil_known.specs.Known.{row_in}
-use Rattle.cil_attrs.specs.Plain.{are_plain}
+use Rattle.cil_mls.specs.attrs.Plain.{are_plain}
 use Rattle.cil_levels.proofs.SecondLemmas.{row_there, second_there}
 use Rattle.cil_levels.proofs.expressions.second_value.Goals as goal
 

@@ -1,5 +1,5 @@
 use Rattle.cil_syntax.specs.declared.kind.Kind.TheVariants as kinds
-use Rattle.cil_attrs.proofs.DeclaredLemmas.{declares_written}
+use Rattle.cil_mls.proofs.attrs_lemmas.DeclaredLemmas.{declares_written}
 use Rattle.cil_levels.proofs.MakingLemmas.{not_mapping}
 use Rattle.cil_levels.proofs.making.give.Goals as goal
 

@@ -8,7 +8,7 @@ use Rattle.cil_syntax.specs.Terms.{Terms}
 use Rattle.cil_macros.specs.Item.{all_words_in}
 use Rattle.cil_macros.specs.Items.{word_at}
 use Rattle.cil_macros.proofs.ItemsThere.{keyword_there, said_there}
-use Rattle.cil_names.specs.Resolves.{Word as AWord, all_wanted_in}
+use Rattle.cil_attrs.specs.names.Resolves.{Word as AWord, all_wanted_in}
 use Rattle.cil_attrs.specs.Plain.{are_plain}
 use Rattle.cil_attrs.proofs.DeclaredLemmas.{declares_written}
 use Rattle.cil_attrs.proofs.PlainLemmas.{all_plain_wanted}

@@ -3,7 +3,7 @@ use Rattle.std.proofs.Common.{◌<◌, ◌∙◌, ap, length, map, subst, sym, a
 use Rattle.std.proofs.lemmas.Option.{slice_get-map}
 use Rattle.cil_macros.specs.Items.{item_at, items_in}
 use Rattle.cil_macros.proofs.ItemLemmas.{item_there, items_taken}
-use Rattle.cil_known.specs.Known.{row_in}
+use Rattle.cil_attrs.specs.known.Known.{row_in}
 use Rattle.cil_mls.proofs.SetEdgeLemmas.{LeadAmong, all_among, more_among, none_among}
 use Rattle.cil_mls.proofs.category_sets.unsorted_edges.Goals as goal
 

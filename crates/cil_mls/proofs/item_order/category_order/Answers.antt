@@ -4,9 +4,9 @@ use Rattle.cil_faults.proofs.RefusalLemmas.{refused}
 use Rattle.cil_syntax.specs.declared.kind.Keyword.TheVariants as keywords
 use Rattle.cil_syntax.specs.declared.kind.Kind.TheVariants as kinds
 use Rattle.cil_macros.specs.Items.{items_in}
-use Rattle.cil_known.specs.Known.{enabled_in}
-use Rattle.cil_known.specs.Members.{space_of}
-use Rattle.cil_known.specs.Numbers.{names_of}
+use Rattle.cil_attrs.specs.known.Known.{enabled_in}
+use Rattle.cil_attrs.specs.known.Members.{space_of}
+use Rattle.cil_attrs.specs.known.Numbers.{names_of}
 use Rattle.cil_attrs.specs.SetFaults.{SetFault}
 use Rattle.cil_mls.specs.Ordering.{HasNoOrder, IsNumberedOrder}
 use Rattle.cil_mls.proofs.OrderSpaces.{categories_space}

@@ -1,7 +1,7 @@
 use Rattle.std.proofs.Common.{ap, length, subst, sym}
 use Rattle.cil_macros.specs.Items.{items_in}
-use Rattle.cil_known.specs.Known.{AreStanding}
-use Rattle.cil_known.specs.Members.{space_of}
+use Rattle.cil_attrs.specs.known.Known.{AreStanding}
+use Rattle.cil_attrs.specs.known.Members.{space_of}
 use Rattle.cil_attrs.specs.Members.{AreMembers}
 use Rattle.cil_mls.proofs.item_order.order_by.Goals as goal
 

@@ -1,6 +1,6 @@
 use Rattle.std.specs.Prelude.{Contains}
 use Rattle.std.proofs.Common.{List, ℕ, ◌∙◌, subst}
-use Rattle.cil_known.specs.Known.{set_meant}
+use Rattle.cil_attrs.specs.known.Known.{set_meant}
 use Rattle.cil_mls.specs.Pairs.{LeadMore}
 use Rattle.cil_mls.proofs.pairs.push_pair.Goals as goal
 

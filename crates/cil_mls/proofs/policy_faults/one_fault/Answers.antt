@@ -1,5 +1,5 @@
 use Rattle.cil_faults.specs.Reported.{global_fault}
-use Rattle.cil_names.specs.Declarations.{nowhere}
+use Rattle.cil_attrs.specs.names.Declarations.{nowhere}
 use Rattle.cil_mls.proofs.OrderFaultLemmas.{one_listed}
 use Rattle.cil_mls.proofs.policy_faults.one_fault.Goals as goal
 

@@ -1,5 +1,5 @@
 use Rattle.std.proofs.Common.{subst, sym, true≢false, ◌∙◌}
-use Rattle.cil_blocks.specs.Namespaces.{AreNamespaces}
+use Rattle.cil_macros.specs.blocks.Namespaces.{AreNamespaces}
 use Rattle.cil_macros.specs.Items.{item_at, namespaces_in, placed_at, word_at}
 use Rattle.cil_macros.proofs.ItemLemmas.{placed_there}
 use Rattle.cil_macros.proofs.PlacedLemmas.{is_place}

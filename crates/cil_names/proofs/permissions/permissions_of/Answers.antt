@@ -1,5 +1,5 @@
 use Rattle.std.proofs.Common.{◌∙◌, subst}
-use Rattle.cil_blocks.specs.Namespaces.{AreNamespaces}
+use Rattle.cil_macros.specs.blocks.Namespaces.{AreNamespaces}
 use Rattle.cil_macros.specs.Items.{items_in, namespaces_in}
 use Rattle.cil_names.proofs.SharedLemmas.{are_apart, permissions_are}
 use Rattle.cil_names.proofs.permissions.permissions_of.Goals as goal

@@ -1,6 +1,6 @@
 use Rattle.std.proofs.Common.{false, sym, ◌∙◌, ap, get_or}
 use Rattle.cil_syntax.specs.Written.{Written}
-use Rattle.cil_blocks.specs.Places.{statements_in}
+use Rattle.cil_macros.specs.blocks.Places.{statements_in}
 use Rattle.cil_macros.specs.Items.{placed_at}
 use Rattle.cil_macros.proofs.ItemLemmas.{placed_there}
 use Rattle.cil_macros.proofs.PlacedLemmas.{is_place}

@@ -1,6 +1,6 @@
 use Rattle.std.proofs.Common.{subst, sym}
 use Rattle.std.specs.List.Sorted.{IsStrictlySortedBy}
-use Rattle.cil_conditions.specs.Order.{branch_cmp}
+use Rattle.cil_index.specs.conditions.Order.{branch_cmp}
 use Rattle.cil_neverallow.proofs.MeetLemmas.{all_always, all_among, listed_bare, no_branches}
 use Rattle.cil_neverallow.proofs.index.index_of.Goals as goal
 

@@ -1,6 +1,6 @@
 use Rattle.std.proofs.Common.{[]}
 use Rattle.std.proofs.lemmas.List.{get_or_default}
-use Rattle.cil_rules.specs.Kept.{rule_named}
+use Rattle.cil_index.specs.rules.Kept.{rule_named}
 use Rattle.cil_neverallow.proofs.MeetLemmas.{none_at_all, none_first, none_more}
 use Rattle.cil_neverallow.proofs.index.may_meet.Goals as goal
 

@@ -1,5 +1,5 @@
-use Rattle.cil_conditions.specs.Bits.{is_on}
-use Rattle.cil_rules.specs.Kept.{rule_named}
+use Rattle.cil_index.specs.conditions.Bits.{is_on}
+use Rattle.cil_index.specs.rules.Kept.{rule_named}
 use Rattle.cil_neverallow.proofs.MeetLemmas.{meets_none}
 use Rattle.cil_neverallow.proofs.index.rule_may_meet.Goals as goal
 use Rattle.std.proofs.Common.{[]}

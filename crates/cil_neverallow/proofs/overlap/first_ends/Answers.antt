@@ -1,6 +1,6 @@
 use Rattle.std.proofs.Common.{[]}
 use Rattle.std.proofs.Common.{ap}
-use Rattle.cil_rules.specs.Kept.{rule_named, set_named, target_named}
+use Rattle.cil_index.specs.rules.Kept.{rule_named, set_named, target_named}
 use Rattle.cil_neverallow.specs.Ends.{AreInAll, AreInBoth}
 use Rattle.cil_neverallow.proofs.EndLemmas.{both_back, both_there, first_back, first_there, no_source, no_target, one_end_of, second_back, second_there, two_ends}
 use Rattle.cil_neverallow.proofs.overlap.first_ends.Goals as goal

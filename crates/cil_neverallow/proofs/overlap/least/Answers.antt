@@ -1,7 +1,7 @@
 use Rattle.std.proofs.Common.{[]}
 use Rattle.std.specs.Prelude.{map}
 use Rattle.std.proofs.lemmas.List.{get_or_default}
-use Rattle.cil_rules.specs.Kept.{rule_named}
+use Rattle.cil_index.specs.rules.Kept.{rule_named}
 use Rattle.cil_neverallow.proofs.LeastLemmas.{overlap_all, overlap_more}
 use Rattle.cil_neverallow.proofs.overlap.least.Goals as goal
 

@@ -1,6 +1,6 @@
 use Rattle.std.proofs.Common.{[]}
 use Rattle.std.proofs.Common.{◌∙◌, sym}
-use Rattle.cil_rules.specs.Kept.{rule_named}
+use Rattle.cil_index.specs.rules.Kept.{rule_named}
 use Rattle.cil_neverallow.proofs.EndLemmas.{least_shared, nothing_shared, positive, small}
 use Rattle.cil_neverallow.proofs.overlap.least_of.Goals as goal
 

@@ -1,6 +1,6 @@
 use Rattle.std.proofs.Common.{[]}
 use Rattle.std.proofs.lemmas.List.{get_or_default}
-use Rattle.cil_rules.specs.Kept.{rule_named}
+use Rattle.cil_index.specs.rules.Kept.{rule_named}
 use Rattle.cil_neverallow.proofs.LeastLemmas.{met_more}
 use Rattle.cil_neverallow.proofs.overlap.least_with.Goals as goal
 

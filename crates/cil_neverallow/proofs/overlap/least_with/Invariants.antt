@@ -1,6 +1,6 @@
 use Rattle.std.proofs.Common.{[]}
 use Rattle.std.specs.Prelude.{map, take}
-use Rattle.cil_rules.specs.Kept.{rule_named}
+use Rattle.cil_index.specs.rules.Kept.{rule_named}
 use Rattle.cil_neverallow.specs.Overlaps.{IsLeastFor, IsMet}
 use Rattle.cil_neverallow.proofs.overlap.least_with.Given as goal
 

@@ -1,4 +1,4 @@
-use Rattle.cil_rules.specs.Records.{ignored}
+use Rattle.cil_index.specs.rules.Records.{ignored}
 use Rattle.std.specs.Prelude.{option_map}
 use Rattle.std.proofs.Common.{◌∙◌, ◌++◌, ◌∷◌, [], ap, map, refl, subst}
 use Rattle.std.proofs.lemmas.Option.{slice_get-map}

@@ -4,9 +4,9 @@ use Rattle.cil_syntax.specs.declared.kind.Kind.TheVariants as kinds
 use Rattle.cil_macros.specs.Items.{item_at, items_in}
 use Rattle.cil_known.specs.Known.{AreStanding, IsKnown, enabled_in}
 use Rattle.cil_known.specs.Numbers.{AreApart}
-use Rattle.cil_classes.specs.ClassRows.{AreClasses}
-use Rattle.cil_classes.specs.Held.{IsAssigned}
-use Rattle.cil_rules.specs.Records.{ignored, CaseBy, IsRuleOf}
+use Rattle.cil_index.specs.classes.ClassRows.{AreClasses}
+use Rattle.cil_index.specs.classes.Held.{IsAssigned}
+use Rattle.cil_index.specs.rules.Records.{ignored, CaseBy, IsRuleOf}
 use Rattle.cil_neverallow.specs.Stated.{AreKept, Stated}
 use Rattle.cil_neverallow.proofs.statements.statements_of.Given as goal
 

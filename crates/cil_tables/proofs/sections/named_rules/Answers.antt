@@ -3,7 +3,7 @@ use Rattle.cil_syntax.specs.declared.kind.Keyword.TheVariants as keywords
 use Rattle.cil_syntax.specs.declared.kind.Kind.TheVariants as kinds
 use Rattle.cil_macros.specs.Items.{items_in}
 use Rattle.cil_known.specs.Known.{enabled_in}
-use Rattle.cil_rules.proofs.BehindLemmas.{are_records}
+use Rattle.cil_neverallow.proofs.rules_lemmas.BehindLemmas.{are_records}
 use Rattle.cil_tables.specs.Sections.{AreNamedRulesOf}
 use Rattle.cil_tables.proofs.sections.named_rules.Goals as goal
 

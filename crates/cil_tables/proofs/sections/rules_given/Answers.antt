@@ -2,9 +2,9 @@ use Rattle.std.proofs.Common.{List, map, subst}
 use Rattle.std.specs.Prelude.{Contains}
 use Rattle.cil_base.specs.Lists.{Lists}
 use Rattle.cil_conditions.specs.declared.branch.Branch.{Branch}
-use Rattle.cil_rules.specs.Kept.{rule_named}
-use Rattle.cil_rules.specs.Order.{rule_cmp}
-use Rattle.cil_rules.proofs.RuleLemmas.{rules_listed}
+use Rattle.cil_neverallow.specs.rules.Kept.{rule_named}
+use Rattle.cil_neverallow.specs.rules.Order.{rule_cmp}
+use Rattle.cil_neverallow.proofs.rules_lemmas.RuleLemmas.{rules_listed}
 use Rattle.cil_tables.proofs.sections.rules_given.Goals as goal
 
 pub returns : goal.returns

@@ -2,7 +2,7 @@ use Rattle.std.proofs.Common.{◌≡◌, length, refl, subst, sym, arith}
 use Rattle.cil_syntax.specs.declared.kind.Kind.TheVariants as kinds
 use Rattle.cil_known.specs.Members.{space_of}
 use Rattle.cil_known.specs.Numbers.{names_of}
-use Rattle.cil_attrs.specs.Members.{AreMembers}
+use Rattle.cil_level_rows.specs.attrs.Members.{AreMembers}
 use Rattle.cil_tables.proofs.standings.all_sets.Goals as goal
 
 pub returns : goal.returns

@@ -1,4 +1,4 @@
-use Rattle.cil_avc.proofs.TrueCache.{true_flushed, true_resized}
+use Rattle.cil_server.proofs.avc_lemmas.TrueCache.{true_flushed, true_resized}
 use Rattle.cil_tests.proofs.caching.keeps.Goals as goal
 
 pub lookup-opens-requires : goal.lookup-opens-requires

@@ -1,7 +1,7 @@
 use Rattle.cil_conditions.specs.Bits.{is_on}
 use Rattle.cil_index.specs.Searched.{rules_in}
 use Rattle.std.proofs.Common.{arith, subst, ◌+◌, ◌≡◌}
-use Rattle.cil_classes.proofs.BitLemmas.{none_set}
+use Rattle.cil_rules.proofs.classes_lemmas.BitLemmas.{none_set}
 use Rattle.cil_index.specs.Found.{Hands, IsAmongSeveral}
 use Rattle.cil_index.proofs.CoverLemmas.{none_behind}
 use Rattle.cil_index.proofs.cover.Search.by_alone.Goals as goal

@@ -1,5 +1,5 @@
 use Rattle.std.proofs.Common.{refl, rules}
-use Rattle.cil_blocks.specs.Namespaces.{space_at}
+use Rattle.cil_macros.specs.blocks.Namespaces.{space_at}
 use Rattle.cil_names.proofs.CandidateLemmas.{entry_in_space}
 use Rattle.cil_names.proofs.names.Names.entry.Goals as goal
 
