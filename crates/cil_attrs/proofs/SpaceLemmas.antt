@@ -4,7 +4,7 @@ use Rattle.std.specs.Prelude.{◌⊎◌, Option, Some, None, slice_get, ℕ, Lis
 use Rattle.std.proofs.lemmas.Bool.{true≢false}
 use Rattle.cil_base.specs.Searches.{or_second}
 use Rattle.cil_macros.specs.blocks.Namespaces.{AreNamespaces}
-use Rattle.cil_macros.specs.blocks.declared.namespaces.Space as blocks
+use Rattle.cil_macros.specs.blocks.Space as blocks
 use Rattle.cil_syntax.specs.declared.kind.Kind.{Kind}
 use Rattle.cil_syntax.specs.declared.kind.Kind.TheVariants as kinds
 use Rattle.cil_syntax.specs.declared.kind.Sign.{Sign}

@@ -14,5 +14,5 @@ pub mod SetFaults
 pub mod SpaceLaws
 pub mod Standing
 pub mod Targets
-pub use Rattle.cil_known.specs as known
-pub use Rattle.cil_names.specs as names
+pub mod known
+pub mod names

@@ -12,7 +12,7 @@ use Rattle.cil_syntax.specs.Forms.{word_and_term}
 use Rattle.cil_syntax.specs.Scopes.{ScopedWord}
 use Rattle.cil_syntax.specs.Terms.{Term, Leaf, Name, Form}
 use Rattle.cil_syntax.specs.declared.term.Word.{Word}
-use Rattle.cil_macros.specs.blocks.declared.namespaces.Space as blocks
+use Rattle.cil_macros.specs.blocks.Space as blocks
 use Rattle.cil_macros.specs.Item.{Item, OptSet}
 use Rattle.cil_macros.specs.Items.{Kept, item_at, items_in, may_say_lists, says_as_written}
 use Rattle.cil_names.specs.Declarations.{Symbol}

@@ -4,14 +4,14 @@ use Rattle.std.specs.Cmp.Lexicographic.{pointwise}
 use Rattle.std.proofs.lemmas.Bool.{and_from, and_parts, eqb-true}
 use Rattle.std.proofs.lemmas.Bool.Decides.{Decides-eqb}
 use Rattle.std.proofs.lemmas.Slice.Eq.{bytes_eq-Decides}
-use Rattle.cil_decide.specs.mls.declared.categories.Categories.{Categories}
-use Rattle.cil_decide.specs.mls.declared.level.Level.{Level}
-use Rattle.cil_decide.specs.constraints_crate.declared.expr.Context.{Context}
-use Rattle.cil_decide.specs.classes.declared.row.ClassId.{ClassId}
-use Rattle.cil_decide.specs.mls.contracts.categories.CategoriesPartialEq.TheImpl as categories
-use Rattle.cil_decide.specs.mls.contracts.level.LevelPartialEq.TheImpl as level
-use Rattle.cil_decide.specs.constraints_crate.contracts.expr.ContextPartialEq.TheImpl as context
-use Rattle.cil_decide.specs.classes.contracts.row.ClassIdPartialEq.TheImpl as class_id
+use Rattle.cil_decide.specs.mls.Categories.{Categories}
+use Rattle.cil_decide.specs.mls.Level.{Level}
+use Rattle.cil_decide.specs.constraints_crate.Context.{Context}
+use Rattle.cil_decide.specs.classes.ClassId.{ClassId}
+use Rattle.cil_decide.specs.mls.CategoriesPartialEq.TheImpl as categories
+use Rattle.cil_decide.specs.mls.LevelPartialEq.TheImpl as level
+use Rattle.cil_decide.specs.constraints_crate.ContextPartialEq.TheImpl as context
+use Rattle.cil_decide.specs.classes.ClassIdPartialEq.TheImpl as class_id
 use Rattle.cil_avc.specs.declared.key.Key.{Key}
 use Rattle.cil_avc.specs.contracts.key.KeyPartialEq.TheImpl as key
 

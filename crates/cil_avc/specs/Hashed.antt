@@ -1,8 +1,8 @@
 -- What a key writes to a hasher: numbers of eight bytes each. This project's profile. No other crate needs these words.
 use Rattle.std.specs.Prelude.{ℕ, ◌*◌, ◌%◌, ◌^◌, ◌++◌, List, fold, bit_xor}
 use Rattle.std.specs.Hash as fed
-use Rattle.cil_decide.specs.mls.declared.level.Level.{Level}
-use Rattle.cil_decide.specs.constraints_crate.declared.expr.Context.{Context}
+use Rattle.cil_decide.specs.mls.Level.{Level}
+use Rattle.cil_decide.specs.constraints_crate.Context.{Context}
 
 -- a number with one word more mixed in; the factor is 2 ^ 64 divided by the golden ratio, rounded down
 abbrev pub mixed_more : ℕ → ℕ → ℕ

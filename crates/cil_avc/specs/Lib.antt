@@ -1,3 +1,3 @@
 pub mod Cache
 pub mod Hashed
-pub use Rattle.cil_decide.specs as decide
+pub mod decide

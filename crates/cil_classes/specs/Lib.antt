@@ -18,4 +18,4 @@ pub mod Row
 pub mod Tied
 pub mod Values
 pub mod Widths
-pub use Rattle.cil_blocks.specs as blocks
+pub mod blocks

@@ -3,4 +3,4 @@ pub mod Layout
 pub mod Pushes
 pub mod Spelled
 pub mod Within
-pub use Rattle.cil_constraints.specs as constraints_crate
+pub mod constraints_crate

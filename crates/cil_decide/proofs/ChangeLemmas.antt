@@ -9,7 +9,7 @@ use Rattle.cil_base.specs.Decided.{same_number}
 use Rattle.cil_base.specs.NameNumbers.{IsNumberOf}
 use Rattle.cil_classes.proofs.BitLemmas.{set_in_either, set_is_one}
 use Rattle.cil_classes.specs.declared.row.Class.{Class}
-use Rattle.cil_tables.specs.constraints_crate.declared.expr.Context.{Context}
+use Rattle.cil_tables.specs.constraints_crate.Context.{Context}
 use Rattle.cil_tables.specs.Meaning.{Bars}
 use Rattle.cil_tables.specs.Table.{Table}
 use Rattle.cil_decide.specs.Changes.{BarsRow, IsMaskOf, IsTransitionBit}

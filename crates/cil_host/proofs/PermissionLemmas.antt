@@ -12,7 +12,7 @@ use Rattle.std.proofs.lemmas.List.Elements.{Contains-get_or}
 use Rattle.std.proofs.lemmas.Option.{slice_get-get_or, slice_get_within, get_or_from_slice_get}
 use Rattle.cil_base.specs.Lists.{Lists, text_cmp, one_list, all_at}
 use Rattle.cil_syntax.specs.declared.kind.Kind.TheVariants as kinds
-use Rattle.cil_table_bytes.specs.classes.declared.row.Class.{Class}
+use Rattle.cil_table_bytes.specs.classes.Class.{Class}
 use Rattle.cil_table_bytes.specs.tables.Agrees.{Compiles}
 use Rattle.cil_names.specs.Declarations.{Declared}
 use Rattle.cil_table_bytes.proofs.tables_lemmas.CompileLemmas.{policy_moved}

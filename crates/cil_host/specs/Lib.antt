@@ -6,5 +6,5 @@ pub mod Permissions
 pub mod Refusal
 pub mod Sets
 pub mod Settings
-pub use Rattle.cil_avc.specs.decide
-pub use Rattle.cil_table_bytes.specs.tables
+pub mod decide
+pub mod tables

@@ -7,7 +7,7 @@ use Rattle.cil_optionals.specs.declared.reason.Reason.{Reason}
 use Rattle.cil_optionals.specs.Certificate.{IsRight}
 use Rattle.cil_optionals.specs.First.{AreFirst}
 use Rattle.cil_optionals.specs.Policy.{ArePolicy}
-use Rattle.cil_avc.specs.decide.declared.decision.Decision.{Decision}
+use Rattle.cil_avc.specs.decide.Decision.{Decision}
 use Rattle.cil_avc.specs.declared.key.Key.{Key}
 use Rattle.cil_avc.specs.Cache.{IsTrueFor}
 use Rattle.cil_optionals.specs.declared.lines.OptionalLine.{OptionalLine}

@@ -10,6 +10,6 @@ pub mod Search
 pub mod Searched
 pub mod Sections
 pub mod Sets
-pub use Rattle.cil_rules.specs.classes
-pub use Rattle.cil_conditions.specs as conditions
-pub use Rattle.cil_rules.specs as rules
+pub mod classes
+pub mod conditions
+pub mod rules

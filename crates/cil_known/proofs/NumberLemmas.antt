@@ -19,7 +19,7 @@ use Rattle.cil_base.specs.Sorted.{lists_of}
 use Rattle.cil_syntax.specs.Spelling.{same_bytes}
 use Rattle.cil_names.specs.declared.entry.Entry.{Entry}
 use Rattle.cil_known.specs.declared.numbers.Sections.{Sections}
-use Rattle.cil_names.specs.blocks.declared.namespaces.Space.{Space}
+use Rattle.cil_names.specs.blocks.Space.{Space}
 use Rattle.cil_names.specs.Entries.{AreOrdered, is_declared_in, place_where}
 use Rattle.cil_names.specs.macros.Item.{OptSet}
 use Rattle.cil_known.specs.Numbers.{AreNumbers, IsNameAmong, has_section, name_given, names_of, place_in, spelled_of}

@@ -14,7 +14,7 @@ use Rattle.cil_faults.specs.Namespaces.{qualified}
 use Rattle.cil_syntax.specs.declared.kind.Kind.{Kind}
 use Rattle.std.proofs.lemmas.Option.{same_Some}
 use Rattle.cil_names.specs.declared.entry.Entry.{Entry}
-use Rattle.cil_names.specs.blocks.declared.namespaces.Space.{Space}
+use Rattle.cil_names.specs.blocks.Space.{Space}
 use Rattle.cil_names.specs.Entries.{AreOrdered, by_name_cmp, key_of}
 use Rattle.cil_syntax.specs.NameSpaces.{rank}
 use Rattle.cil_names.specs.macros.Item.{OptSet}

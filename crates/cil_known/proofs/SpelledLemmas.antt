@@ -4,7 +4,7 @@ use Rattle.std.specs.Prelude.{reverse}
 use Rattle.std.specs.List.{join_with_byte}
 use Rattle.std.proofs.lemmas.List.{reverse-append}
 use Rattle.cil_faults.specs.Namespaces.{qualified, Namespace}
-use Rattle.cil_names.specs.blocks.declared.namespaces.Space.{Space}
+use Rattle.cil_names.specs.blocks.Space.{Space}
 use Rattle.cil_names.specs.blocks.Namespaces.{AreNamespaces, space_at}
 use Rattle.cil_names.proofs.blocks_lemmas.NamespaceLemmas.{global_at, inner_of}
 

@@ -11,7 +11,7 @@ use Rattle.cil_syntax.specs.Kinds.{kind_number}
 use Rattle.cil_syntax.specs.declared.term.Word.{Word}
 use Rattle.cil_syntax.specs.Terms.{Term}
 use Rattle.cil_names.specs.declared.entry.Entry.{Entry}
-use Rattle.cil_names.specs.blocks.declared.namespaces.Space.{Space}
+use Rattle.cil_names.specs.blocks.Space.{Space}
 use Rattle.cil_names.specs.Entries.{AreEntries, is_declared_in, is_in}
 use Rattle.cil_names.specs.macros.Item.{Item, OptSet, replaced}
 use Rattle.cil_syntax.specs.Scopes.{ScopedWord}

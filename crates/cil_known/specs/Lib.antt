@@ -5,6 +5,6 @@ pub mod Members
 pub mod Numbers
 pub mod Says
 pub mod Spaces
-pub use Rattle.cil_names.specs.blocks
-pub use Rattle.cil_names.specs.macros
-pub use Rattle.cil_names.specs as names
+pub mod blocks
+pub mod macros
+pub mod names

@@ -9,7 +9,7 @@ use Rattle.cil_syntax.specs.Spelling.{is_name, same_bytes}
 use Rattle.cil_syntax.specs.Scopes.{IsDotless}
 use Rattle.cil_names.specs.declared.entry.Entry.{Entry}
 use Rattle.cil_known.specs.declared.numbers.Sections.{Sections}
-use Rattle.cil_names.specs.blocks.declared.namespaces.Space.{Space}
+use Rattle.cil_names.specs.blocks.Space.{Space}
 use Rattle.cil_names.specs.Declarations.{name_of}
 use Rattle.cil_names.specs.Entries.{is_declared_in, place_where}
 use Rattle.cil_names.specs.Symbols.{is_of, symbol_of}

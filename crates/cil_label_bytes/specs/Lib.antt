@@ -2,5 +2,5 @@ pub mod Keys
 pub mod Layout
 pub mod Names
 pub mod Sets
-pub use Rattle.cil_labels.specs as labels
-pub use Rattle.cil_mls.specs as mls
+pub mod labels
+pub mod mls

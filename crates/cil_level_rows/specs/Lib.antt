@@ -5,7 +5,7 @@ pub mod NoLevels
 pub mod Parts
 pub mod Rows
 pub mod Steps
-pub use Rattle.cil_ranges.specs.attrs
-pub use Rattle.cil_labels.specs as labels
-pub use Rattle.cil_mls.specs as mls
-pub use Rattle.cil_ranges.specs as ranges
+pub mod attrs
+pub mod labels
+pub mod mls
+pub mod ranges

@@ -34,4 +34,4 @@ pub mod SaidParts
 pub mod Scene
 pub mod Unfoldings
 pub mod Walks
-pub use Rattle.cil_blocks.specs as blocks
+pub mod blocks

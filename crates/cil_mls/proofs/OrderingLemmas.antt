@@ -13,8 +13,8 @@ use Rattle.cil_syntax.specs.Scopes.{ScopedWord}
 use Rattle.cil_macros.specs.Item.{Item, OptSet}
 use Rattle.cil_attrs.proofs.names_lemmas.DeclareDecided.{symbol_by}
 use Rattle.cil_attrs.proofs.known_lemmas.StandingLemmas as standings
-use Rattle.cil_attrs.specs.names.declared.entry.Entry.{Entry}
-use Rattle.cil_attrs.specs.known.declared.known.Known.{Known}
+use Rattle.cil_attrs.specs.names.Entry.{Entry}
+use Rattle.cil_attrs.specs.known.DeclaredKnown.{Known}
 use Rattle.cil_attrs.specs.names.Declarations.{Declared, Symbol, name_of}
 use Rattle.cil_attrs.specs.names.Entries.{IsEntryFor}
 use Rattle.cil_attrs.specs.known.Known.{HasNumberFor, IsNumbered, enabled_in, meant_in, set_meant}

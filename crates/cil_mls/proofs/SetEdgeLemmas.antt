@@ -26,18 +26,18 @@ use Rattle.cil_syntax.specs.Scopes.{ScopedWord}
 use Rattle.cil_syntax.specs.Table.{entry_of}
 use Rattle.cil_syntax.specs.Terms.{Name, cons}
 use Rattle.cil_syntax.proofs.KindLemmas.{one_kind, same_kind}
-use Rattle.cil_macros.specs.blocks.declared.namespaces.Space.{Space}
+use Rattle.cil_macros.specs.blocks.Space.{Space}
 use Rattle.cil_macros.specs.Item.{Item, all_words_in}
 use Rattle.cil_attrs.specs.names.Declarations.{Symbol}
 use Rattle.cil_attrs.specs.names.Entries.{AreEntries, HasNoEntryIn, IsAnswer, IsEntryIn, IsNamed, is_entry_of}
 use Rattle.cil_attrs.specs.names.Laws.{MeansWhatItNames}
 use Rattle.cil_attrs.specs.names.Resolves.{Word as AWord, all_wanted_in, found_in, is_mapping}
-use Rattle.cil_attrs.specs.names.declared.entry.Entry.{Entry}
+use Rattle.cil_attrs.specs.names.Entry.{Entry}
 use Rattle.cil_attrs.specs.names.Symbols.{symbol_of}
 use Rattle.cil_attrs.proofs.names_lemmas.AnswerLemmas.{one_entry}
 use Rattle.cil_attrs.proofs.names_lemmas.CandidateLemmas.{they_are}
 use Rattle.cil_attrs.proofs.names_lemmas.ReadingLemmas.{plain_said}
-use Rattle.cil_attrs.specs.known.declared.known.Known.{Known}
+use Rattle.cil_attrs.specs.known.DeclaredKnown.{Known}
 use Rattle.cil_attrs.specs.known.Known.{IsKnown, enabled_in, meant_in, row_in, value_in}
 use Rattle.cil_attrs.specs.known.Spaces.{is_same_symbol, names}
 use Rattle.cil_attrs.specs.Holding.{is_kind}

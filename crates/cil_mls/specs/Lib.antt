@@ -17,4 +17,4 @@ pub mod Reading
 pub mod SetEdges
 pub mod Switch
 pub mod Values
-pub use Rattle.cil_attrs.specs as attrs
+pub mod attrs

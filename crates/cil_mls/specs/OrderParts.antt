@@ -16,7 +16,7 @@ use Rattle.cil_syntax.specs.declared.kind.Kind.TheVariants as kinds
 use Rattle.cil_macros.specs.Item.{Item, OptSet}
 use Rattle.cil_attrs.specs.names.Declarations.{nowhere}
 use Rattle.cil_attrs.specs.known.Members.{space_of}
-use Rattle.cil_attrs.specs.known.declared.numbers.Sections.{Sections}
+use Rattle.cil_attrs.specs.known.Sections.{Sections}
 use Rattle.cil_attrs.specs.SetFaults.{IsItemName, SetFault}
 use Rattle.cil_mls.specs.CategorySets.{CircularSet}
 use Rattle.cil_mls.specs.OrderFaults.{IsUnordered, Switches, most_categories, most_sensitivities}

@@ -7,8 +7,8 @@ use Rattle.cil_syntax.specs.declared.kind.Kind.TheVariants as kinds
 use Rattle.cil_syntax.specs.Scopes.{ScopedWord}
 use Rattle.cil_macros.specs.Item.{Item, all_words_in}
 use Rattle.cil_attrs.specs.names.Declarations.{Symbol}
-use Rattle.cil_attrs.specs.names.declared.entry.Entry.{Entry}
-use Rattle.cil_attrs.specs.known.declared.known.Known.{Known}
+use Rattle.cil_attrs.specs.names.Entry.{Entry}
+use Rattle.cil_attrs.specs.known.DeclaredKnown.{Known}
 use Rattle.cil_attrs.specs.known.Known.{enabled_in, meant_in}
 use Rattle.cil_attrs.specs.SetFaults.{DeclaresAt, symbol_under}
 use Rattle.cil_attrs.specs.Targets.{IsEntryAt}

@@ -12,7 +12,7 @@ use Rattle.cil_faults.specs.Namespaces.{Namespace}
 use Rattle.cil_syntax.specs.Scopes.{asked, spaces_asked, ScopedWord}
 use Rattle.std.proofs.Math.Bool.{or-false}
 use Rattle.cil_names.specs.declared.entry.Entry.{Entry}
-use Rattle.cil_macros.specs.blocks.declared.namespaces.Space.{Space}
+use Rattle.cil_macros.specs.blocks.Space.{Space}
 use Rattle.cil_names.specs.Entries.{AreEntries, AreOrdered, IsAnswer, IsNamed, candidate, candidates_of, is_declared_at, is_declared_in, is_entry_of, by_name_cmp, key_of, listed, place_where}
 use Rattle.cil_syntax.specs.NameSpaces.{rank}
 use Rattle.cil_macros.specs.Item.{Item, OptSet}

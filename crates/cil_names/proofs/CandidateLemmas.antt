@@ -14,7 +14,7 @@ use Rattle.cil_syntax.specs.Scopes.{ScopedWord, asked, names_backwards, same_spa
 use Rattle.std.proofs.lemmas.Option.{same_Some}
 use Rattle.cil_syntax.proofs.DecidedEquality.{spaces_decide}
 use Rattle.cil_names.specs.declared.entry.Entry.{Entry}
-use Rattle.cil_macros.specs.blocks.declared.namespaces.Space.{Space}
+use Rattle.cil_macros.specs.blocks.Space.{Space}
 use Rattle.cil_names.specs.Entries.{AreOrdered, HasNoEntry, IsEntryAt, candidate, candidates_of, is_entry, listed, is_entry_of, place_where, HasNoEntryIn, IsEntryIn}
 use Rattle.cil_syntax.specs.Kinds.{is_wanted}
 use Rattle.cil_macros.specs.blocks.Namespaces.{AreNamespaces, HasNoNumber, IsNumber, space_at}

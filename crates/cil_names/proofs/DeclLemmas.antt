@@ -11,7 +11,7 @@ use Rattle.cil_faults.specs.Namespaces.{Namespace}
 use Rattle.cil_syntax.specs.Scopes.{same_space}
 use Rattle.cil_syntax.proofs.DecidedEquality.{spaces_decide}
 use Rattle.cil_names.specs.declared.entry.Entry.{Entry}
-use Rattle.cil_macros.specs.blocks.declared.namespaces.Space.{Space}
+use Rattle.cil_macros.specs.blocks.Space.{Space}
 use Rattle.cil_names.specs.Declarations.{Declaration, IsDeclaration, by, declared_by, object, object_role}
 use Rattle.cil_names.specs.Entries.{AreEntries, is_declared_in, is_entry_of}
 use Rattle.cil_macros.specs.Item.{Item, OptSet, is_enabled}

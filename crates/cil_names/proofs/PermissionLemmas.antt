@@ -39,7 +39,7 @@ use Rattle.cil_syntax.specs.Scopes.{ScopedWord, same_space}
 use Rattle.cil_syntax.proofs.DecidedEquality.{spaces_decide}
 use Rattle.std.proofs.Math.Bool.{or-false}
 use Rattle.cil_names.specs.declared.entry.Entry.{Entry}
-use Rattle.cil_macros.specs.blocks.declared.namespaces.Space.{Space}
+use Rattle.cil_macros.specs.blocks.Space.{Space}
 use Rattle.cil_names.specs.Declarations.{Declaration, Symbol, content_of, declarations, declared_by}
 use Rattle.cil_names.specs.Entries.{AreOrdered, HasNoEntry, IsEntryAt, is_entry}
 use Rattle.cil_macros.specs.blocks.Entries.{statement_at}

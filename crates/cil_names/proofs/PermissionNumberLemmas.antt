@@ -10,7 +10,7 @@ use Rattle.cil_syntax.specs.Kinds.{is_wanted}
 use Rattle.cil_syntax.specs.Scopes.{ScopedWord}
 use Rattle.cil_syntax.specs.Spelling.{same_bytes}
 use Rattle.cil_syntax.specs.declared.kind.Sign.TheVariants as signs
-use Rattle.cil_macros.specs.blocks.declared.namespaces.Space.{Space}
+use Rattle.cil_macros.specs.blocks.Space.{Space}
 use Rattle.cil_macros.specs.Item.{Item, OptSet, nobody}
 use Rattle.cil_names.specs.Classes.{is_class_at}
 use Rattle.cil_names.specs.declared.entry.Entry.{Entry}

@@ -12,7 +12,7 @@ use Rattle.cil_syntax.specs.Said.{all_said, args_of}
 use Rattle.cil_syntax.specs.Scopes.{ScopedWord}
 use Rattle.cil_syntax.specs.Terms.{Term, Leaf, Name, Form, Terms, nil, cons}
 use Rattle.cil_syntax.specs.Written.{Written}
-use Rattle.cil_macros.specs.blocks.declared.namespaces.Space.{Space}
+use Rattle.cil_macros.specs.blocks.Space.{Space}
 use Rattle.cil_macros.specs.blocks.Contents.{Standing}
 use Rattle.cil_macros.specs.blocks.Namespaces.{space_at}
 use Rattle.cil_macros.specs.declared.placed_word.PlacedWord.{PlacedWord}

@@ -9,7 +9,7 @@ use Rattle.cil_base.specs.Lists.{contains_cases, contains_none}
 use Rattle.cil_base.specs.MadeLists.{from_flat}
 use Rattle.cil_base.specs.Searches.{found_is}
 use Rattle.cil_syntax.specs.Scopes.{ScopedWord, asked, spaces_asked}
-use Rattle.cil_macros.specs.blocks.declared.namespaces.Space.{Space}
+use Rattle.cil_macros.specs.blocks.Space.{Space}
 use Rattle.cil_macros.specs.blocks.Namespaces.{AreNamespaces}
 use Rattle.cil_macros.specs.Item.{Item, OptSet, nobody}
 use Rattle.cil_names.specs.declared.entry.Entry.{Entry}

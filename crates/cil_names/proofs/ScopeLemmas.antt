@@ -11,7 +11,7 @@ use Rattle.cil_syntax.specs.declared.term.Word.{Word}
 use Rattle.cil_syntax.specs.Scopes.{IsTaken, asked, names_backwards}
 use Rattle.cil_syntax.proofs.AskedLemmas.{is_global, is_parted}
 use Rattle.cil_names.specs.declared.entry.Entry.{Entry}
-use Rattle.cil_macros.specs.blocks.declared.namespaces.Space.{Space}
+use Rattle.cil_macros.specs.blocks.Space.{Space}
 use Rattle.cil_macros.specs.Asked.{numbers_asked}
 use Rattle.cil_names.specs.Entries.{candidate, candidates_of, listed, scope_of, scoped}
 use Rattle.cil_names.specs.Sought.{could_name}

@@ -34,7 +34,7 @@ use Rattle.cil_syntax.specs.Spelling.{same_bytes}
 use Rattle.cil_syntax.specs.Terms.{Leaf, Terms, nil, cons}
 use Rattle.cil_syntax.proofs.DecidedEquality.{spaces_decide}
 use Rattle.cil_faults.specs.Namespaces.{Namespace}
-use Rattle.cil_macros.specs.blocks.declared.namespaces.Space.{Space}
+use Rattle.cil_macros.specs.blocks.Space.{Space}
 use Rattle.cil_macros.specs.blocks.Namespaces.{AreNamespaces, IsNumber, space_at}
 use Rattle.cil_macros.specs.Item.{Item, all_replaced, is_enabled, nobody}
 use Rattle.cil_macros.specs.Items.{may_say_lists, says_as_written}

@@ -14,7 +14,7 @@ use Rattle.cil_syntax.specs.Kinds.{is_wanted}
 use Rattle.cil_faults.specs.Namespaces.{Namespace}
 use Rattle.cil_syntax.specs.Scopes.{EndsGlobally, IsDotless, IsParted, Scope, ScopedWord, asked, asked_by, names_backwards, spaces_asked}
 use Rattle.cil_syntax.proofs.AskedLemmas.{one_name}
-use Rattle.cil_macros.specs.blocks.declared.namespaces.Space.{Space}
+use Rattle.cil_macros.specs.blocks.Space.{Space}
 use Rattle.cil_macros.specs.blocks.Namespaces.{AreNamespaces, space_at}
 use Rattle.cil_macros.proofs.blocks_lemmas.NamespaceLemmas.{global_at, same_number}
 use Rattle.cil_names.specs.declared.entry.Entry.{Entry}

@@ -18,5 +18,5 @@ pub mod Sought
 pub mod Symbols
 pub mod Unresolved
 pub mod Worded
-pub use Rattle.cil_macros.specs.blocks
-pub use Rattle.cil_macros.specs as macros
+pub mod blocks
+pub mod macros

@@ -1,7 +1,7 @@
 -- What a word means: the number of the entry that it names, or nothing. This project's profile.
 use Rattle.std.specs.Prelude.{ℕ, List, find, Option, Some, None, zero, suc}
 use Rattle.cil_names.specs.declared.entry.Entry.{Entry}
-use Rattle.cil_macros.specs.blocks.declared.namespaces.Space.{Space}
+use Rattle.cil_macros.specs.blocks.Space.{Space}
 use Rattle.cil_names.specs.Entries.{candidates_of, is_declared_at}
 use Rattle.cil_macros.specs.Item.{OptSet}
 use Rattle.cil_syntax.specs.Scopes.{ScopedWord}

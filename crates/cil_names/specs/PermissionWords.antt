@@ -5,7 +5,7 @@ use Rattle.std.specs.Global.{Vec}
 use Rattle.std.specs.Option.{option_map, option_map_or}
 use Rattle.cil_base.specs.declared.bytes.Bytes.{Bytes}
 use Rattle.cil_names.specs.declared.entry.Entry.{Entry}
-use Rattle.cil_macros.specs.blocks.declared.namespaces.Space.{Space}
+use Rattle.cil_macros.specs.blocks.Space.{Space}
 use Rattle.cil_names.specs.Entries.{IsNamed, candidates_of, is_declared_at, listed, place_where}
 use Rattle.cil_macros.specs.Item.{Item, OptSet, nobody}
 use Rattle.cil_syntax.specs.Kinds.{is_wanted}

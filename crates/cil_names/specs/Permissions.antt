@@ -15,7 +15,7 @@ use Rattle.cil_syntax.specs.declared.term.Word.{Word}
 use Rattle.cil_syntax.specs.Kinds.{is_wanted}
 use Rattle.cil_syntax.specs.Forms.{listed_behind_name}
 use Rattle.cil_syntax.specs.Said.{all_said, args_of}
-use Rattle.cil_macros.specs.blocks.declared.namespaces.Space.{Space}
+use Rattle.cil_macros.specs.blocks.Space.{Space}
 use Rattle.cil_macros.specs.blocks.Namespaces.{AreNamespaces, IsNumber}
 use Rattle.cil_names.specs.declared.entry.Entry.{Entry}
 use Rattle.cil_names.specs.declared.permissions.Listing.{Listing}

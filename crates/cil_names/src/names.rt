@@ -9,7 +9,7 @@ ghost use Rattle.cil_base.specs.declared.bytes.Bytes.{Bytes as Text};
 ghost use Rattle.cil_names.specs.Entries.{AreEntries, AreOrdered, HasNoEntryIn, IsAnswer, IsEntryIn, candidates_of, is_declared_at, is_in, by_name_cmp, key_of, listed, scoped};
 ghost use Rattle.cil_macros.specs.Item.{Item, OptSet as OptionalSet};
 ghost use Rattle.cil_syntax.specs.Scopes.{EndsGlobally, Scope};
-ghost use Rattle.cil_macros.specs.blocks.declared.namespaces.Space.{Space};
+ghost use Rattle.cil_macros.specs.blocks.Space.{Space};
 ghost use Rattle.cil_names.specs.Soles.{in_scope};
 ghost use Rattle.cil_names.specs.PermissionWords.{IsAnswerFor, wanted_candidates};
 ghost use Rattle.cil_names.specs.Resolves.{Permission};

@@ -9,7 +9,7 @@ ghost use Rattle.std.specs.Ordering.{on};
 ghost use Rattle.cil_base.specs.Lists.{text_cmp};
 ghost use Rattle.cil_base.specs.declared.bytes.Bytes.{Bytes as Text};
 ghost use Rattle.cil_syntax.specs.Spelling.{same_bytes};
-ghost use Rattle.cil_macros.specs.blocks.declared.namespaces.Space.{Space};
+ghost use Rattle.cil_macros.specs.blocks.Space.{Space};
 ghost use Rattle.cil_syntax.specs.Scopes.{ScopedWord};
 ghost use Rattle.cil_names.specs.Classes.{IsClassFor, IsClassOf, is_class_at};
 ghost use Rattle.cil_names.specs.declared.entry.Entry.{Entry as Declared};

@@ -4,7 +4,7 @@ ghost use Rattle.std.specs.Prelude.{◌≡◌, ◌≤◌, ◌<◌, ◌++◌, ◌
 ghost use Rattle.std.specs.List.Sorted.{IsStrictlySortedBy};
 ghost use Rattle.std.specs.Ordering.{on};
 ghost use Rattle.cil_syntax.specs.Scopes.{EndsGlobally, Scope};
-ghost use Rattle.cil_macros.specs.blocks.declared.namespaces.Space.{Space};
+ghost use Rattle.cil_macros.specs.blocks.Space.{Space};
 ghost use Rattle.cil_names.specs.Entries.{AreOrdered, by_name_cmp, candidates_of, key_of, listed, scoped};
 ghost use Rattle.cil_names.specs.Soles.{IsSoleOf, in_scope};
 

@@ -8,15 +8,15 @@ use Rattle.cil_base.specs.MadeLists.{contains_map, from_map}
 use Rattle.cil_index.proofs.classes_lemmas.BitLemmas.{none_set, set_in_both}
 use Rattle.cil_sets.specs.Answers.{IsNextFrom}
 use Rattle.cil_index.specs.rules.Covers.{HasCover, Reaches}
-use Rattle.cil_index.specs.conditions.declared.branch.Branch.{Branch}
+use Rattle.cil_index.specs.conditions.Branch.{Branch}
 use Rattle.cil_index.specs.conditions.Active.{is_active}
 use Rattle.cil_index.specs.conditions.Order.{branch_cmp}
 use Rattle.cil_index.specs.rules.Kept.{branch_named, rule_named, set_named, target_named}
 use Rattle.cil_index.specs.rules.Order.{rule_cmp}
 use Rattle.cil_index.specs.rules.Rule.{Rule}
-use Rattle.cil_index.specs.rules.declared.rule.NamedRule.{NamedRule}
-use Rattle.cil_index.specs.rules.declared.rule.Reach.{Reach}
-use Rattle.cil_index.specs.rules.declared.rule.Reach.TheVariants as reaches
+use Rattle.cil_index.specs.rules.NamedRule.{NamedRule}
+use Rattle.cil_index.specs.rules.Reach.{Reach}
+use Rattle.cil_index.specs.rules.Reach.TheVariants as reaches
 use Rattle.cil_neverallow.specs.declared.overlap.Overlap.{Overlap}
 use Rattle.cil_neverallow.specs.Overlaps.{HaveIt, Holds, IsMet, IsOverlap}
 use Rattle.cil_neverallow.specs.Stated.{Stated}

@@ -21,7 +21,7 @@ use Rattle.cil_known.specs.Members.{StandsFor}
 use Rattle.cil_known.specs.Numbers.{AreApart}
 use Rattle.cil_index.specs.classes.ClassRows.{AreClasses}
 use Rattle.cil_index.specs.classes.Given.{HasPair}
-use Rattle.cil_index.specs.classes.declared.row.Class.{Class}
+use Rattle.cil_index.specs.classes.Class.{Class}
 use Rattle.cil_index.proofs.classes_lemmas.PartLemmas.{one_row}
 use Rattle.cil_index.specs.rules.CoveredBy.{IsCoveredBy, IsTarget}
 use Rattle.cil_index.specs.rules.Covers.{Reaches}

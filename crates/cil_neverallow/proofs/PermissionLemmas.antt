@@ -13,7 +13,7 @@ use Rattle.cil_faults.specs.declared.fault.Fault.{Fault}
 use Rattle.cil_macros.specs.Item.{Item}
 use Rattle.cil_index.specs.rules.Kept.{rule_named}
 use Rattle.cil_index.specs.rules.Rule.{Rule}
-use Rattle.cil_index.specs.rules.declared.rule.NamedRule.{NamedRule}
+use Rattle.cil_index.specs.rules.NamedRule.{NamedRule}
 use Rattle.cil_neverallow.specs.declared.overlap.Overlap.{Overlap}
 use Rattle.cil_neverallow.specs.Overlaps.{IsOverlap}
 use Rattle.cil_neverallow.specs.declared.forbidden.View.{View}

@@ -24,7 +24,7 @@ use Rattle.cil_names.specs.Resolves.{has_permission}
 use Rattle.cil_index.specs.classes.ClassRows.{AreClasses}
 use Rattle.cil_index.specs.classes.Given.{HasPair, of_class, of_map, of_name}
 use Rattle.cil_index.specs.classes.Values.{in_value_there}
-use Rattle.cil_index.specs.classes.declared.row.Class.{Class}
+use Rattle.cil_index.specs.classes.Class.{Class}
 use Rattle.cil_index.proofs.classes_lemmas.ValueLemmas.{value_there}
 
 -- a permission that is given is one of its class

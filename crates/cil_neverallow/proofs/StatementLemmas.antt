@@ -11,7 +11,7 @@ use Rattle.cil_macros.specs.Item.{Item}
 use Rattle.cil_index.specs.rules.Behind.{AreBehind}
 use Rattle.cil_index.specs.rules.Kept.{rule_named}
 use Rattle.cil_index.specs.rules.Rule.{Rule}
-use Rattle.cil_index.specs.rules.declared.rule.NamedRule.{NamedRule}
+use Rattle.cil_index.specs.rules.NamedRule.{NamedRule}
 use Rattle.cil_neverallow.specs.declared.statements.Run.{Run}
 use Rattle.cil_neverallow.specs.Permissions.{AreApart}
 use Rattle.cil_neverallow.specs.Stated.{AreHereOr, AreKept, AreRunsIn, AreStatements, IsAdded, IsRunIn, Keeps, Stated, nothing_stated, stated_at, stated_in}

@@ -5,5 +5,5 @@ pub mod Overlaps
 pub mod Permissions
 pub mod Stated
 pub mod Violations
-pub use Rattle.cil_index.specs as index_crate
-pub use Rattle.cil_index.specs.rules
+pub mod index_crate
+pub mod rules

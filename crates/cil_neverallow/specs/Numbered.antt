@@ -1,6 +1,6 @@
 -- Quadruples by the numbers of their names. No other crate needs these words.
 use Rattle.std.specs.Prelude.{◌≡◌, ℕ, List, Some, slice_get}
-use Rattle.cil_index.specs.classes.declared.row.Class.{Class}
+use Rattle.cil_index.specs.classes.Class.{Class}
 use Rattle.cil_names.specs.Declarations.{name_of}
 use Rattle.cil_known.specs.Known.{IsNumbered}
 use Rattle.cil_neverallow.specs.NeverFaults.{Quadruple}

@@ -1,6 +1,6 @@
 -- Which permissions rules name, as a mask for each class.
 use Rattle.std.specs.Prelude.{◌≡◌, ℕ, ◌<◌, List, Contains, IsBitSet, get_or, length}
-use Rattle.cil_index.specs.rules.declared.rule.NamedRule.{NamedRule}
+use Rattle.cil_index.specs.rules.NamedRule.{NamedRule}
 
 -- the masks of classes have all permissions of the rules
 abbrev pub AreIn : List NamedRule → List ℕ → Type 0

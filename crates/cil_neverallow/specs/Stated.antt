@@ -4,7 +4,7 @@ use Rattle.cil_base.specs.Records.{AreRecordsOf}
 use Rattle.cil_macros.specs.Item.{Item}
 use Rattle.cil_index.specs.rules.Kept.{rule_named}
 use Rattle.cil_index.specs.rules.Rule.{Rule}
-use Rattle.cil_index.specs.rules.declared.rule.NamedRule.{NamedRule}
+use Rattle.cil_index.specs.rules.NamedRule.{NamedRule}
 use Rattle.cil_neverallow.specs.Permissions.{AreApart}
 use Rattle.cil_neverallow.specs.declared.statements.Part.{Part}
 use Rattle.cil_neverallow.specs.declared.statements.Run.{Run}

@@ -5,7 +5,7 @@ use Rattle.cil_faults.specs.declared.fault.Fault.{Fault}
 use Rattle.cil_faults.specs.declared.spot.Spot.{Spot}
 use Rattle.cil_faults.specs.Reported.{fault_at}
 use Rattle.cil_macros.specs.Item.{Item}
-use Rattle.cil_index.specs.classes.declared.row.Class.{Class}
+use Rattle.cil_index.specs.classes.Class.{Class}
 use Rattle.cil_index.specs.rules.Kept.{rule_named}
 use Rattle.cil_index.specs.rules.Rule.{Rule}
 use Rattle.cil_neverallow.specs.declared.overlap.Overlap.{Overlap}

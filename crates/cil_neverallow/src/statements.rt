@@ -9,7 +9,7 @@ ghost use Rattle.cil_names.specs.Resolves.{is_mapping};
 ghost use Rattle.cil_names.specs.Rows.{IsTableOf};
 ghost use Rattle.cil_index.specs.classes.NodeOrder.{node_cmp};
 ghost use Rattle.cil_index.specs.classes.Row.{AreOrderlyRows};
-ghost use Rattle.cil_index.specs.rules.declared.rule.NamedRule.{NamedRule as ARule};
+ghost use Rattle.cil_index.specs.rules.NamedRule.{NamedRule as ARule};
 ghost use Rattle.cil_index.specs.rules.ForNames.{ForNames};
 ghost use Rattle.cil_index.specs.rules.Records.{CaseBy, IsRuleOf, ignored};
 ghost use Rattle.cil_neverallow.specs.Stated.{AreHereOr, AreKept, IsAdded, IsRunIn, Stated, stated_at, stated_in, stated_of};

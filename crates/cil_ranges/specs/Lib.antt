@@ -11,5 +11,5 @@ pub mod Reading
 pub mod Steps
 pub mod Users
 pub mod Walked
-pub use Rattle.cil_attrs.specs as attrs
-pub use Rattle.cil_levels.specs as levels_crate
+pub mod attrs
+pub mod levels_crate

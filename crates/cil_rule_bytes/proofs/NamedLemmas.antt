@@ -9,7 +9,7 @@ use Rattle.cil_base.specs.MadeLists.{contains_flat}
 use Rattle.cil_base.specs.declared.memory.NoMemory.{NoMemory}
 use Rattle.cil_conditions.specs.declared.branch.Branch.{Branch}
 use Rattle.cil_index.specs.rules.Kept.{branch_named, rule_named}
-use Rattle.cil_index.specs.rules.declared.rule.NamedRule.{NamedRule}
+use Rattle.cil_index.specs.rules.NamedRule.{NamedRule}
 use Rattle.cil_index.specs.rules.Rule.{Rule}
 use Rattle.cil_rule_bytes.specs.Handed.{AreNamed, IsNamed, branches_in, listed_branch, sets_in}
 use Rattle.cil_rule_bytes.specs.Layout.{types_of}

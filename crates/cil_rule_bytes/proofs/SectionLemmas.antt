@@ -11,7 +11,7 @@ use Rattle.cil_conditions.specs.declared.branch.Branch.{Branch}
 use Rattle.cil_format.proofs.Bytes.{IsBytes}
 use Rattle.cil_index.specs.declared.section.NamedRules.{NamedRules}
 use Rattle.cil_index.specs.Sections.{RuleSections}
-use Rattle.cil_index.specs.rules.declared.rule.NamedRule.{NamedRule}
+use Rattle.cil_index.specs.rules.NamedRule.{NamedRule}
 use Rattle.cil_index.specs.rules.Kept.{rule_named}
 use Rattle.cil_index.specs.rules.Order.{rule_cmp, rule_total}
 use Rattle.cil_index.specs.rules.Rule.{Rule}

@@ -6,5 +6,5 @@ pub mod Pushed
 pub mod Records
 pub mod Sections
 pub mod Spelled
-pub use Rattle.cil_index.specs as index_crate
-pub use Rattle.cil_index.specs.rules
+pub mod index_crate
+pub mod rules

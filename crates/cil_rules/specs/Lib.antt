@@ -9,4 +9,4 @@ pub mod Listed
 pub mod Order
 pub mod Records
 pub mod Rule
-pub use Rattle.cil_classes.specs as classes
+pub mod classes

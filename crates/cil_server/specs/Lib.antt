@@ -11,4 +11,4 @@ pub mod Streams
 pub mod Taken
 pub mod Turns
 pub mod Views
-pub use Rattle.cil_host.specs.tables
+pub mod tables

@@ -24,5 +24,5 @@ pub mod Terms
 pub mod Told
 pub mod Words
 pub mod Written
-pub use Rattle.cil_modset.specs as modset
-pub use Rattle.cil_sexpr.specs as sexpr
+pub mod modset
+pub mod sexpr

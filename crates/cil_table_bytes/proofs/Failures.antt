@@ -1,6 +1,6 @@
 -- Where one part of a table is refused, the whole is.
 use Rattle.std.proofs.Common.{◌≡◌, ℕ, Bool, true, false, List, [], ◌∷◌, length, eqb, Ok, Err, refl}
-use Rattle.cil_constraint_bytes.specs.constraints_crate.declared.mask.Constraint.{Constraint}
+use Rattle.cil_constraint_bytes.specs.constraints_crate.Constraint.{Constraint}
 use Rattle.cil_rule_bytes.specs.index_crate.Sections.{RuleSections}
 use Rattle.cil_tables.specs.Table.{Table}
 use Rattle.cil_format.specs.declared.fault.TableError.{TableError}

@@ -13,8 +13,8 @@ use Rattle.std.proofs.lemmas.List.{append-nil}
 use Rattle.cil_base.specs.Lists.{all_at, text_cmp}
 use Rattle.cil_classes.specs.declared.row.Class.{Class}
 use Rattle.cil_classes.specs.Row.{IsOrderlyClass, class_cmp}
-use Rattle.cil_label_bytes.specs.mls.declared.categories.Categories.{Categories}
-use Rattle.cil_label_bytes.specs.mls.declared.level.Range.{Range}
+use Rattle.cil_label_bytes.specs.mls.Categories.{Categories}
+use Rattle.cil_label_bytes.specs.mls.Range.{Range}
 use Rattle.cil_tables.specs.declared.tables.Alias.{Alias}
 use Rattle.cil_tables.specs.declared.tables.Boolean.{Boolean}
 use Rattle.cil_tables.specs.declared.tables.Link.{Link}

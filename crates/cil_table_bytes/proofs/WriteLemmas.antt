@@ -5,7 +5,7 @@ use Rattle.std.proofs.Math.Seq.{drop-cons}
 use Rattle.std.proofs.lemmas.Grind.{flat_map-append}
 use Rattle.std.proofs.lemmas.List.{append-nil, drop_all, length-append, length-map}
 use Rattle.cil_base.specs.declared.memory.NoMemory.{NoMemory}
-use Rattle.cil_constraint_bytes.specs.constraints_crate.declared.mask.Constraint.{Constraint}
+use Rattle.cil_constraint_bytes.specs.constraints_crate.Constraint.{Constraint}
 use Rattle.cil_rule_bytes.specs.index_crate.Sections.{RuleSections}
 use Rattle.cil_tables.specs.declared.tables.Link.{Link}
 use Rattle.cil_tables.specs.Holders.{link_to, links_from}

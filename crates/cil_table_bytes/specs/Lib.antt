@@ -4,5 +4,5 @@ pub mod Measured
 pub mod Names
 pub mod Parts
 pub mod Told
-pub use Rattle.cil_classes.specs as classes
-pub use Rattle.cil_tables.specs as tables
+pub mod classes
+pub mod tables

@@ -20,9 +20,9 @@ pub mod Sections
 pub mod SetsStep
 pub mod Standings
 pub mod Table
-pub use Rattle.cil_constraints.specs as constraints_crate
-pub use Rattle.cil_neverallow.specs.index_crate
-pub use Rattle.cil_level_rows.specs.labels
-pub use Rattle.cil_level_rows.specs.mls
-pub use Rattle.cil_optionals.specs as optionals
-pub use Rattle.cil_neverallow.specs.rules
+pub mod constraints_crate
+pub mod index_crate
+pub mod labels
+pub mod mls
+pub mod optionals
+pub mod rules

@@ -9,10 +9,10 @@ use Rattle.cil_classes.specs.declared.row.Class.{Class}
 use Rattle.cil_base.specs.Records.{AreRecordsOf}
 use Rattle.cil_syntax.specs.declared.kind.Keyword.{Keyword}
 use Rattle.cil_conditions.specs.declared.branch.Branch.{Branch}
-use Rattle.cil_neverallow.specs.rules.declared.rule.NamedRule.{NamedRule}
+use Rattle.cil_neverallow.specs.rules.NamedRule.{NamedRule}
 use Rattle.cil_neverallow.specs.rules.Kept.{rule_named}
 use Rattle.cil_neverallow.specs.rules.Records.{CaseBy, IsRuleOf, spelled}
-use Rattle.cil_neverallow.specs.index_crate.declared.section.NamedRules.{NamedRules}
+use Rattle.cil_neverallow.specs.index_crate.NamedRules.{NamedRules}
 use Rattle.cil_known.specs.declared.numbers.Sections.{Sections}
 use Rattle.cil_level_rows.specs.labels.LevelTable.{LevelTable}
 use Rattle.cil_tables.specs.declared.sections.Given.{Given}

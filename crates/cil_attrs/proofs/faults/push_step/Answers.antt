@@ -1,7 +1,7 @@
 use Rattle.std.specs.Prelude.{length, Some}
 use Rattle.std.proofs.Common.{◌≡◌, ◌≤◌, ℕ, List, ◌∷◌, ◌++◌, ◌∙◌, [], ap, subst, sym}
 use Rattle.std.proofs.lemmas.Option.{none-some}
-use Rattle.cil_macros.specs.blocks.declared.namespaces.Space.{Space}
+use Rattle.cil_macros.specs.blocks.Space.{Space}
 use Rattle.cil_macros.specs.blocks.Namespaces.{space_at}
 use Rattle.cil_faults.specs.declared.code.FaultCode.TheVariants as causes
 use Rattle.cil_faults.specs.Reported.{fault_at, spelled_fault}

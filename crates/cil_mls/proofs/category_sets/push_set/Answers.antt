@@ -1,5 +1,5 @@
 use Rattle.std.proofs.Common.{List, subst}
-use Rattle.cil_attrs.specs.names.declared.entry.Entry.{Entry}
+use Rattle.cil_attrs.specs.names.Entry.{Entry}
 use Rattle.cil_mls.specs.Pairs.{LeadMore}
 use Rattle.cil_macros.specs.Items.{item_at, items_in}
 use Rattle.cil_mls.specs.SetEdges.{IsSetEdge}

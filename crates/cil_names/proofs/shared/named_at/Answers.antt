@@ -1,5 +1,5 @@
 use Rattle.std.proofs.Common.{◌∙◌, List, subst, sym}
-use Rattle.cil_macros.specs.blocks.declared.namespaces.Space.{Space}
+use Rattle.cil_macros.specs.blocks.Space.{Space}
 use Rattle.cil_syntax.specs.Scopes.{ScopedWord}
 use Rattle.cil_macros.specs.Items.{items_in, namespaces_in, word_at}
 use Rattle.cil_names.specs.declared.entry.Entry.{Entry}

@@ -1,0 +1,3 @@
+-- What crates above take of cil_tables.
+pub use Rattle.cil_table_bytes.specs.tables.CompileAnswer
+pub use Rattle.cil_table_bytes.specs.tables.CompileRefusal

@@ -1,0 +1,5 @@
+-- What crates above take of cil_names.
+pub use Rattle.cil_names.specs.Declarations
+pub use Rattle.cil_names.specs.Resolves
+pub use Rattle.cil_names.specs.Rows
+pub use Rattle.cil_names.specs.Unresolved

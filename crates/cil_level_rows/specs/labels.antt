@@ -1,0 +1,3 @@
+-- What crates above take of cil_labels.
+pub use Rattle.cil_labels.specs.Labels
+pub use Rattle.cil_labels.specs.LevelTable

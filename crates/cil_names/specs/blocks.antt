@@ -1,0 +1,5 @@
+-- What crates above take of cil_blocks.
+pub use Rattle.cil_macros.specs.blocks.Branches
+pub use Rattle.cil_macros.specs.blocks.Contents
+pub use Rattle.cil_macros.specs.blocks.Namespaces
+pub use Rattle.cil_macros.specs.blocks.Space

@@ -1,0 +1,3 @@
+-- What crates above take of cil_index.
+pub use Rattle.cil_index.specs.Sections
+pub use Rattle.cil_index.specs.declared.section.NamedRules

@@ -1,0 +1,3 @@
+-- What crates above take of cil_tables.
+pub use Rattle.cil_host.specs.tables.CompileAnswer
+pub use Rattle.cil_host.specs.tables.CompileRefusal

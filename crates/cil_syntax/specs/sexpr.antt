@@ -1,0 +1,2 @@
+-- What crates above take of cil_sexpr.
+pub use Rattle.cil_sexpr.specs.Tree
