@@ -71,9 +71,16 @@ pub fn first_declared(declared: &[bool], list: &[u32]) -> Option<usize>
     ensures { result ≡ find (is_in declared.now) list.now }
 {
     for entry in list {
-        if is_set(declared, *entry as usize) {
+        if is_declared(declared, *entry) {
             return Some(*entry as usize);
         }
     }
     None
+}
+
+/// Whether an entry is declared, by flags of the entries that are.
+fn is_declared(declared: &[bool], entry: u32) -> bool
+    ensures { result ≡ is_in declared.now entry }
+{
+    is_set(declared, entry as usize)
 }
