@@ -15,15 +15,15 @@ use Rattle.cil_syntax.specs.Scopes.{ScopedWord}
 use Rattle.cil_syntax.specs.Table.{entry_of}
 use Rattle.cil_syntax.specs.Terms.{Leaf, Name, Form, Terms, nil, cons}
 use Rattle.cil_syntax.proofs.KindLemmas.{one_kind}
-use Rattle.cil_macros.specs.Item.{Item, OptSet, is_enabled}
-use Rattle.cil_names.specs.Declarations.{Declaration, IsDeclaration, by, content_of, declarations, declared_by, object}
-use Rattle.cil_names.specs.Entries.{AreEntries, is_declared_in}
+use Rattle.cil_known.specs.macros.Item.{Item, OptSet, is_enabled}
+use Rattle.cil_known.specs.names.Declarations.{Declaration, IsDeclaration, by, content_of, declarations, declared_by, object}
+use Rattle.cil_known.specs.names.Entries.{AreEntries, is_declared_in}
 use Rattle.cil_known.specs.Family.{DependsOn, no_range}
-use Rattle.cil_names.specs.Symbols.{symbol_of}
+use Rattle.cil_known.specs.names.Symbols.{symbol_of}
 use Rattle.cil_known.specs.Spaces.{Sets, SpaceOf, any_sets}
-use Rattle.cil_names.specs.declared.entry.Entry.{Entry}
+use Rattle.cil_known.specs.names.Entry.{Entry}
 use Rattle.cil_known.specs.declared.known.Known.{Known}
-use Rattle.cil_names.proofs.DeclareDecided.{symbol_by}
+use Rattle.cil_known.proofs.names_lemmas.DeclareDecided.{symbol_by}
 use Rattle.cil_attrs.specs.Holding.{is_kind}
 use Rattle.cil_attrs.specs.SetFaults.{DeclaresAt, SetFault, alias_cycle, set_cycle, symbol_under}
 

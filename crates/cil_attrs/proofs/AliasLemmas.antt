@@ -6,7 +6,7 @@ use Rattle.cil_faults.specs.declared.code.FaultCode.TheVariants as causes
 use Rattle.cil_faults.specs.declared.fault.Fault.{Fault}
 use Rattle.cil_syntax.specs.declared.kind.Kind.{Kind}
 use Rattle.cil_syntax.specs.declared.kind.Sign.{Sign}
-use Rattle.cil_macros.specs.Items.{Kept, items_in, may_say_lists, says_as_written}
+use Rattle.cil_known.specs.macros.Items.{Kept, items_in, may_say_lists, says_as_written}
 use Rattle.cil_known.specs.Known.{enabled_in}
 use Rattle.cil_known.specs.Spaces.{Sets, SpaceOf}
 use Rattle.cil_known.specs.declared.known.Known.{Known}

@@ -5,9 +5,9 @@ use Rattle.std.specs.Ordering.{nat_cmp}
 use Rattle.cil_base.specs.Lists.{Lists}
 use Rattle.cil_base.specs.Places.{get_in_front, get_last, in_range}
 use Rattle.cil_syntax.specs.declared.kind.Kind.{Kind}
-use Rattle.cil_macros.specs.Item.{Item}
+use Rattle.cil_known.specs.macros.Item.{Item}
 use Rattle.cil_known.specs.declared.known.Known.{Known}
-use Rattle.cil_names.specs.Declarations.{name_of}
+use Rattle.cil_known.specs.names.Declarations.{name_of}
 use Rattle.cil_known.specs.Spaces.{SpaceOf}
 use Rattle.cil_attrs.specs.Holding.{AreAll}
 

@@ -8,18 +8,18 @@ use Rattle.std.specs.Option.{option_map_or}
 use Rattle.cil_base.specs.MadeLists.{contains_map, from_map}
 use Rattle.cil_syntax.specs.declared.kind.Kind.{Kind}
 use Rattle.cil_syntax.specs.Scopes.{ScopedWord}
-use Rattle.cil_macros.specs.Item.{replaced, words_in}
-use Rattle.cil_macros.specs.Items.{Kept, items_in, word_at}
-use Rattle.cil_names.specs.declared.entry.Entry.{Entry}
+use Rattle.cil_known.specs.macros.Item.{replaced, words_in}
+use Rattle.cil_known.specs.macros.Items.{Kept, items_in, word_at}
+use Rattle.cil_known.specs.names.Entry.{Entry}
 use Rattle.cil_known.specs.declared.known.Known.{Known}
-use Rattle.cil_names.specs.Declarations.{Symbol}
-use Rattle.cil_names.specs.Entries.{IsAnswer, IsNamed, is_declared_in}
+use Rattle.cil_known.specs.names.Declarations.{Symbol}
+use Rattle.cil_known.specs.names.Entries.{IsAnswer, IsNamed, is_declared_in}
 use Rattle.cil_known.specs.Family.{DependsOn, Uses, no_range}
 use Rattle.cil_known.specs.Family as family
 use Rattle.cil_known.specs.Known.{enabled_in, meant_in}
-use Rattle.cil_names.specs.Resolves.{found_in}
-use Rattle.cil_names.specs.Laws.{MeansWhatItNames}
-use Rattle.cil_names.specs.Symbols.{symbol_of}
+use Rattle.cil_known.specs.names.Resolves.{found_in}
+use Rattle.cil_known.specs.names.Laws.{MeansWhatItNames}
+use Rattle.cil_known.specs.names.Symbols.{symbol_of}
 use Rattle.cil_known.specs.Spaces.{SpaceOf, any_sets, is_same_symbol, names_set}
 use Rattle.cil_attrs.specs.declared.evaluator.Held.{Held}
 use Rattle.cil_attrs.specs.declared.evaluator.Held.TheVariants.{Nothing, Set}

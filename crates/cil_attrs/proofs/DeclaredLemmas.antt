@@ -8,7 +8,7 @@ use Rattle.cil_faults.specs.Reported.{fault_at}
 use Rattle.cil_faults.specs.declared.code.FaultCode.{FaultCode}
 use Rattle.cil_faults.specs.declared.fault.Fault.{Fault}
 use Rattle.cil_faults.specs.declared.spot.Spot.{Spot}
-use Rattle.cil_macros.specs.blocks.Space as blocks
+use Rattle.cil_known.specs.macros.blocks.Space as blocks
 use Rattle.cil_syntax.specs.declared.kind.Keyword.{Keyword}
 use Rattle.cil_syntax.specs.declared.kind.Keyword.TheVariants as keywords
 use Rattle.cil_syntax.specs.declared.kind.Kind.{Kind}
@@ -21,15 +21,15 @@ use Rattle.cil_syntax.specs.Said.{args_of}
 use Rattle.cil_syntax.specs.Scopes.{ScopedWord}
 use Rattle.cil_syntax.specs.Table.{entry_of}
 use Rattle.cil_syntax.specs.Terms.{Name, Terms, cons}
-use Rattle.cil_macros.specs.Item.{Item, OptSet, is_enabled}
-use Rattle.cil_macros.specs.Items.{Kept, item_at, placed_at, says_as_written}
-use Rattle.cil_macros.proofs.ItemsThere.{keyword_there}
-use Rattle.cil_macros.proofs.SaidTerms.{SaysTerms, front_said, front_written, terms_there}
-use Rattle.cil_names.specs.Declarations.{Symbol}
-use Rattle.cil_names.specs.Entries.{AreEntries, HasNoEntryIn, IsEntryIn}
-use Rattle.cil_names.specs.Symbols.{symbol_of}
-use Rattle.cil_names.specs.declared.entry.Entry.{Entry}
-use Rattle.cil_names.proofs.CandidateLemmas.{they_are}
+use Rattle.cil_known.specs.macros.Item.{Item, OptSet, is_enabled}
+use Rattle.cil_known.specs.macros.Items.{Kept, item_at, placed_at, says_as_written}
+use Rattle.cil_known.proofs.macros_lemmas.ItemsThere.{keyword_there}
+use Rattle.cil_known.proofs.macros_lemmas.SaidTerms.{SaysTerms, front_said, front_written, terms_there}
+use Rattle.cil_known.specs.names.Declarations.{Symbol}
+use Rattle.cil_known.specs.names.Entries.{AreEntries, HasNoEntryIn, IsEntryIn}
+use Rattle.cil_known.specs.names.Symbols.{symbol_of}
+use Rattle.cil_known.specs.names.Entry.{Entry}
+use Rattle.cil_known.proofs.names_lemmas.CandidateLemmas.{they_are}
 use Rattle.cil_attrs.specs.SetFaults.{DeclaresAt}
 use Rattle.cil_attrs.specs.Targets.{IsToldAt}
 use Rattle.cil_attrs.proofs.FaultLemmas.{its_entry}

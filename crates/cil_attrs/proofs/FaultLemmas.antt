@@ -14,7 +14,7 @@ use Rattle.cil_faults.specs.Reported.{fault_at, global_fault}
 use Rattle.cil_faults.specs.declared.code.FaultCode.{FaultCode}
 use Rattle.cil_faults.specs.declared.code.FaultCode.TheVariants as causes
 use Rattle.cil_faults.specs.declared.fault.Fault.{Fault}
-use Rattle.cil_macros.specs.blocks.Space as blocks
+use Rattle.cil_known.specs.macros.blocks.Space as blocks
 use Rattle.cil_syntax.specs.declared.kind.Keyword.{Keyword}
 use Rattle.cil_syntax.specs.declared.kind.Kind.{Kind}
 use Rattle.cil_syntax.specs.Forms.{word_and_term}
@@ -23,18 +23,18 @@ use Rattle.cil_syntax.specs.Table.{entry_of}
 use Rattle.cil_syntax.specs.Terms.{Form, Leaf, Name, Term, Terms, cons, nil}
 use Rattle.cil_syntax.proofs.KindLemmas.{same_kind}
 use Rattle.cil_faults.specs.declared.spot.Spot.{Spot}
-use Rattle.cil_macros.specs.Item.{Item, OptSet}
-use Rattle.cil_macros.specs.Items.{Kept, item_at, items_in, may_say_lists, says_as_written}
-use Rattle.cil_names.specs.Declarations.{Declaration, Symbol, by, content_of, declarations, declared_by, name_of, nowhere}
-use Rattle.cil_names.specs.Entries.{AreEntries}
+use Rattle.cil_known.specs.macros.Item.{Item, OptSet}
+use Rattle.cil_known.specs.macros.Items.{Kept, item_at, items_in, may_say_lists, says_as_written}
+use Rattle.cil_known.specs.names.Declarations.{Declaration, Symbol, by, content_of, declarations, declared_by, name_of, nowhere}
+use Rattle.cil_known.specs.names.Entries.{AreEntries}
 use Rattle.cil_known.specs.Family.{DependsOn, no_range}
 use Rattle.cil_known.specs.Known.{IsKnown, enabled_in}
 use Rattle.cil_known.specs.Numbers.{IsNameAmong, has_section}
-use Rattle.cil_names.specs.Symbols.{symbol_of}
+use Rattle.cil_known.specs.names.Symbols.{symbol_of}
 use Rattle.cil_known.specs.Spaces.{Sets, SpaceOf, any_sets}
-use Rattle.cil_names.specs.declared.entry.Entry.{Entry}
+use Rattle.cil_known.specs.names.Entry.{Entry}
 use Rattle.cil_known.specs.declared.known.Known.{Known}
-use Rattle.cil_names.proofs.DeclareDecided.{symbol_by}
+use Rattle.cil_known.proofs.names_lemmas.DeclareDecided.{symbol_by}
 use Rattle.cil_attrs.specs.declared.giver.SetKind.{SetKind}
 use Rattle.cil_attrs.specs.declared.targets.Step.{Step}
 use Rattle.cil_attrs.specs.Givers.{AreSets, IsSets}

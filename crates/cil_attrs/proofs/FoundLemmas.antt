@@ -22,21 +22,21 @@ use Rattle.cil_syntax.specs.Kinds.{is_wanted}
 use Rattle.cil_syntax.specs.Scopes.{ScopedWord}
 use Rattle.cil_syntax.specs.Terms.{Term}
 use Rattle.cil_syntax.proofs.KindLemmas.{one_kind, same_kind}
-use Rattle.cil_macros.specs.Item.{Item, is_enabled, words_in}
-use Rattle.cil_macros.specs.Items.{Kept, items_in}
-use Rattle.cil_names.specs.Declarations.{Declared, Symbol, name_of}
-use Rattle.cil_names.specs.Entries.{is_declared_in}
+use Rattle.cil_known.specs.macros.Item.{Item, is_enabled, words_in}
+use Rattle.cil_known.specs.macros.Items.{Kept, items_in}
+use Rattle.cil_known.specs.names.Declarations.{Declared, Symbol, name_of}
+use Rattle.cil_known.specs.names.Entries.{is_declared_in}
 use Rattle.cil_known.specs.Family.{IsRanked, Solves, gives, holds, in_value, is_given, is_giving, no_range}
 use Rattle.cil_known.specs.Known.{enabled_in}
-use Rattle.cil_names.specs.Laws.{MeansWhatItNames}
+use Rattle.cil_known.specs.names.Laws.{MeansWhatItNames}
 use Rattle.cil_known.specs.Numbers.{AreApart, has_section}
-use Rattle.cil_names.specs.Symbols.{symbol_of}
-use Rattle.cil_names.specs.Resolves.{found_in}
+use Rattle.cil_known.specs.names.Symbols.{symbol_of}
+use Rattle.cil_known.specs.names.Resolves.{found_in}
 use Rattle.cil_known.specs.Spaces.{SpaceOf, any_sets, is_declared, is_same_symbol, names, names_set, symbol_in}
-use Rattle.cil_names.specs.declared.entry.Entry.{Entry}
+use Rattle.cil_known.specs.names.Entry.{Entry}
 use Rattle.cil_known.specs.declared.known.Known.{Known}
-use Rattle.cil_names.proofs.CandidateLemmas.{place_none, place_some}
-use Rattle.cil_names.proofs.DeclareDecided.{symbol_by}
+use Rattle.cil_known.proofs.names_lemmas.CandidateLemmas.{place_none, place_some}
+use Rattle.cil_known.proofs.names_lemmas.DeclareDecided.{symbol_by}
 use Rattle.cil_known.proofs.MemberLemmas.{declared_is}
 use Rattle.cil_attrs.specs.declared.evaluator.Held.{Held}
 use Rattle.cil_attrs.specs.declared.evaluator.Held.TheVariants as are_held

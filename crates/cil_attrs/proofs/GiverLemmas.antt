@@ -17,18 +17,18 @@ use Rattle.cil_syntax.specs.Forms.{word_and_term}
 use Rattle.cil_syntax.specs.Kinds.{is_wanted}
 use Rattle.cil_syntax.specs.Scopes.{ScopedWord}
 use Rattle.cil_syntax.specs.Terms.{Term, Leaf, Terms, nil, cons}
-use Rattle.cil_macros.specs.Items.{Kept, item_at, items_in, may_say_lists, says_as_written, word_at}
-use Rattle.cil_macros.specs.Item.{Item, all_replaced, is_enabled, replaced}
-use Rattle.cil_macros.proofs.FormLemmas.{across, all_across, no_word}
-use Rattle.cil_names.specs.declared.entry.Entry.{Entry}
+use Rattle.cil_known.specs.macros.Items.{Kept, item_at, items_in, may_say_lists, says_as_written, word_at}
+use Rattle.cil_known.specs.macros.Item.{Item, all_replaced, is_enabled, replaced}
+use Rattle.cil_known.proofs.macros_lemmas.FormLemmas.{across, all_across, no_word}
+use Rattle.cil_known.specs.names.Entry.{Entry}
 use Rattle.cil_known.specs.declared.known.Known.{Known}
-use Rattle.cil_names.specs.Declarations.{Symbol}
-use Rattle.cil_names.specs.Entries.{IsAnswer, IsNamed, is_declared_in}
+use Rattle.cil_known.specs.names.Declarations.{Symbol}
+use Rattle.cil_known.specs.names.Entries.{IsAnswer, IsNamed, is_declared_in}
 use Rattle.cil_known.specs.Family.{Family, gives, in_value, is_giving, no_range}
 use Rattle.cil_known.specs.Known.{IsKnown, enabled_in, meant_by, meant_in, value_in, wanted_with}
-use Rattle.cil_names.specs.Laws.{MeansWhatItNames}
-use Rattle.cil_names.specs.Symbols.{symbol_of}
-use Rattle.cil_names.specs.Resolves.{Word as AWord, all_wanted_in, found_in, is_mapping, wanted_in}
+use Rattle.cil_known.specs.names.Laws.{MeansWhatItNames}
+use Rattle.cil_known.specs.names.Symbols.{symbol_of}
+use Rattle.cil_known.specs.names.Resolves.{Word as AWord, all_wanted_in, found_in, is_mapping, wanted_in}
 use Rattle.cil_known.specs.Spaces.{Sets, SpaceOf, any_sets, is_declared, is_same_symbol, names, names_set, symbol_in}
 use Rattle.cil_attrs.specs.declared.giver.SetKind.{SetKind}
 use Rattle.cil_attrs.specs.declared.giver.SpaceKinds.{SpaceKinds}

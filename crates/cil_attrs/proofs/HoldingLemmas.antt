@@ -14,20 +14,20 @@ use Rattle.cil_syntax.specs.Spelling.{same_bytes}
 use Rattle.cil_syntax.specs.Terms.{Term, Leaf, Name, Form, Terms, nil, cons}
 use Rattle.cil_syntax.proofs.DecidedEquality.{spaces_decide}
 use Rattle.cil_syntax.proofs.KindLemmas.{one_kind, same_kind}
-use Rattle.cil_macros.specs.blocks.Namespaces.{space_at}
-use Rattle.cil_macros.specs.Item.{Item, all_replaced, replaced}
-use Rattle.cil_names.specs.declared.entry.Entry.{Entry}
+use Rattle.cil_known.specs.macros.blocks.Namespaces.{space_at}
+use Rattle.cil_known.specs.macros.Item.{Item, all_replaced, replaced}
+use Rattle.cil_known.specs.names.Entry.{Entry}
 use Rattle.cil_known.specs.declared.known.Known.{Known}
-use Rattle.cil_names.specs.Declarations.{Declared, Symbol}
-use Rattle.cil_names.specs.Entries.{IsAnswer, IsNamed}
+use Rattle.cil_known.specs.names.Declarations.{Declared, Symbol}
+use Rattle.cil_known.specs.names.Entries.{IsAnswer, IsNamed}
 use Rattle.cil_known.specs.Family.{Family, holds, in_value, no_range}
 use Rattle.cil_known.specs.Known.{IsKnown, enabled_in, meant_in}
-use Rattle.cil_names.specs.Laws.{MeansWhatItNames}
-use Rattle.cil_names.specs.Symbols.{symbol_of}
-use Rattle.cil_names.specs.Resolves.{found_in}
+use Rattle.cil_known.specs.names.Laws.{MeansWhatItNames}
+use Rattle.cil_known.specs.names.Symbols.{symbol_of}
+use Rattle.cil_known.specs.names.Resolves.{found_in}
 use Rattle.cil_known.specs.Spaces.{Sets, SpaceOf, any_sets, is_declared, is_same_symbol, names, names_set, symbol_in}
-use Rattle.cil_names.proofs.CandidateLemmas.{parts_of, they_are}
-use Rattle.cil_names.proofs.DeclareDecided.{symbol_by}
+use Rattle.cil_known.proofs.names_lemmas.CandidateLemmas.{parts_of, they_are}
+use Rattle.cil_known.proofs.names_lemmas.DeclareDecided.{symbol_by}
 use Rattle.cil_known.proofs.FamilyLemmas.{same_tests}
 use Rattle.cil_known.proofs.MemberLemmas.{declared_is}
 use Rattle.cil_attrs.specs.declared.evaluator.Held.{Held}

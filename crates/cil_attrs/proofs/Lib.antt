@@ -22,4 +22,5 @@ pub mod ValueLemmas
 pub mod ValueWithinLemmas
 pub mod WholeLemmas
 pub use Rattle.cil_known.proofs as known_lemmas
-pub use Rattle.cil_names.proofs as names_lemmas
+pub use Rattle.cil_known.proofs.names_lemmas as names_lemmas
+pub use Rattle.cil_known.proofs.macros_lemmas

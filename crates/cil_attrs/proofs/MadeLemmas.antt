@@ -11,7 +11,7 @@ use Rattle.cil_base.specs.Lists.{contains_here, contains_later}
 use Rattle.cil_base.specs.MadeLists.{contains_map}
 use Rattle.cil_base.specs.Places.{contains_at, get_set_other, get_set_same, in_range, in_take, is_there, there_as}
 use Rattle.cil_syntax.specs.declared.term.Word.{Word}
-use Rattle.cil_macros.specs.Item.{words_in}
+use Rattle.cil_known.specs.macros.Item.{words_in}
 use Rattle.cil_known.proofs.FamilyLemmas.{same_tests}
 use Rattle.cil_base.specs.Among.{among}
 use Rattle.cil_attrs.specs.declared.evaluator.Held.{Held}

@@ -16,15 +16,15 @@ use Rattle.cil_syntax.specs.Spelling.{same_bytes}
 use Rattle.cil_syntax.specs.Terms.{Term, cons, nil}
 use Rattle.cil_syntax.proofs.DecidedEquality.{spaces_decide}
 use Rattle.cil_syntax.proofs.KindLemmas.{one_kind}
-use Rattle.cil_macros.specs.Item.{all_replaced, all_words_in, replaced, words_in}
-use Rattle.cil_macros.specs.Items.{Kept, items_in, word_at}
-use Rattle.cil_names.specs.declared.entry.Entry.{Entry}
+use Rattle.cil_known.specs.macros.Item.{all_replaced, all_words_in, replaced, words_in}
+use Rattle.cil_known.specs.macros.Items.{Kept, items_in, word_at}
+use Rattle.cil_known.specs.names.Entry.{Entry}
 use Rattle.cil_known.specs.declared.known.Known.{Known}
-use Rattle.cil_names.specs.Declarations.{Symbol}
-use Rattle.cil_names.specs.Entries.{is_declared_in}
-use Rattle.cil_names.proofs.ReadingLemmas.{words_of_terms}
+use Rattle.cil_known.specs.names.Declarations.{Symbol}
+use Rattle.cil_known.specs.names.Entries.{is_declared_in}
+use Rattle.cil_known.proofs.names_lemmas.ReadingLemmas.{words_of_terms}
 use Rattle.cil_known.specs.Known.{enabled_in, value_in}
-use Rattle.cil_names.specs.Resolves.{Word as AWord}
+use Rattle.cil_known.specs.names.Resolves.{Word as AWord}
 use Rattle.cil_known.specs.Spaces.{Sets, SpaceOf, any_sets, is_same_symbol}
 use Rattle.cil_attrs.specs.declared.evaluator.Held.{Held}
 use Rattle.cil_attrs.specs.declared.evaluator.Held.TheVariants.{Nothing, Set}

@@ -20,8 +20,8 @@ use Rattle.cil_syntax.specs.declared.term.Word.{Word}
 use Rattle.cil_syntax.specs.Forms.{is_class_list}
 use Rattle.cil_syntax.specs.Scopes.{ScopedWord}
 use Rattle.cil_syntax.specs.Terms.{Term, Leaf, Name, Form, Terms, nil, cons}
-use Rattle.cil_macros.specs.Item.{all_replaced, all_words_in, replaced, words_in}
-use Rattle.cil_names.specs.Resolves.{Word as AWord, all_wanted_in, wanted_in, words_of_class}
+use Rattle.cil_known.specs.macros.Item.{all_replaced, all_words_in, replaced, words_in}
+use Rattle.cil_known.specs.names.Resolves.{Word as AWord, all_wanted_in, wanted_in, words_of_class}
 use Rattle.cil_attrs.specs.Plain.{ArePlain, are_plain, is_plain}
 
 parts : (a b : Bool) → (a && b) ≡ true → (a ≡ true) × (b ≡ true)

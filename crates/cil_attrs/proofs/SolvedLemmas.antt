@@ -14,18 +14,18 @@ use Rattle.cil_syntax.specs.Scopes.{same_space}
 use Rattle.cil_syntax.specs.Spelling.{same_bytes}
 use Rattle.cil_syntax.proofs.DecidedEquality.{spaces_decide}
 use Rattle.cil_syntax.proofs.KindLemmas.{one_kind, same_kind}
-use Rattle.cil_macros.specs.Item.{Item, replaced}
-use Rattle.cil_macros.specs.Items.{Kept, items_in, word_at}
-use Rattle.cil_names.specs.declared.entry.Entry.{Entry}
+use Rattle.cil_known.specs.macros.Item.{Item, replaced}
+use Rattle.cil_known.specs.macros.Items.{Kept, items_in, word_at}
+use Rattle.cil_known.specs.names.Entry.{Entry}
 use Rattle.cil_known.specs.declared.known.Known.{Known}
-use Rattle.cil_names.specs.Declarations.{Symbol}
-use Rattle.cil_names.specs.Entries.{is_declared_in}
+use Rattle.cil_known.specs.names.Declarations.{Symbol}
+use Rattle.cil_known.specs.names.Entries.{is_declared_in}
 use Rattle.cil_known.specs.Family.{Family, gives, in_value, is_given, is_giving, no_range}
 use Rattle.cil_known.specs.Known.{enabled_in}
-use Rattle.cil_names.specs.Laws.{MeansWhatItNames}
-use Rattle.cil_names.specs.Symbols.{symbol_of}
+use Rattle.cil_known.specs.names.Laws.{MeansWhatItNames}
+use Rattle.cil_known.specs.names.Symbols.{symbol_of}
 use Rattle.cil_known.specs.Spaces.{Sets, SpaceOf, any_sets, is_declared, is_same_symbol, is_set}
-use Rattle.cil_names.proofs.DeclareDecided.{symbol_by}
+use Rattle.cil_known.proofs.names_lemmas.DeclareDecided.{symbol_by}
 use Rattle.cil_known.proofs.MemberLemmas.{declared_is}
 use Rattle.cil_attrs.specs.declared.evaluator.Held.{Held}
 use Rattle.cil_attrs.specs.declared.giver.SpaceKinds.{SpaceKinds}

@@ -3,22 +3,22 @@ use Rattle.std.proofs.Common.{◌≡◌, Bool, true, false, ◌||◌, refl, sym,
 use Rattle.std.specs.Prelude.{◌⊎◌, Option, Some, None, slice_get, ℕ, List}
 use Rattle.std.proofs.lemmas.Bool.{true≢false}
 use Rattle.cil_base.specs.Searches.{or_second}
-use Rattle.cil_macros.specs.blocks.Namespaces.{AreNamespaces}
-use Rattle.cil_macros.specs.blocks.Space as blocks
+use Rattle.cil_known.specs.macros.blocks.Namespaces.{AreNamespaces}
+use Rattle.cil_known.specs.macros.blocks.Space as blocks
 use Rattle.cil_syntax.specs.declared.kind.Kind.{Kind}
 use Rattle.cil_syntax.specs.declared.kind.Kind.TheVariants as kinds
 use Rattle.cil_syntax.specs.declared.kind.Sign.{Sign}
 use Rattle.cil_syntax.specs.Kinds.{is_wanted}
 use Rattle.cil_syntax.specs.NameSpaces.{name_space}
 use Rattle.cil_syntax.proofs.KindLemmas.{one_kind, same_kind}
-use Rattle.cil_names.specs.Declarations.{Symbol}
-use Rattle.cil_names.specs.Entries.{AreOrdered}
+use Rattle.cil_known.specs.names.Declarations.{Symbol}
+use Rattle.cil_known.specs.names.Entries.{AreOrdered}
 use Rattle.cil_known.specs.Numbers.{has_section}
-use Rattle.cil_names.specs.Symbols.{symbol_of}
+use Rattle.cil_known.specs.names.Symbols.{symbol_of}
 use Rattle.cil_known.specs.Spaces.{SpaceOf, any_sets}
-use Rattle.cil_names.specs.declared.entry.Entry.{Entry}
-use Rattle.cil_names.proofs.AnswerLemmas.{one_entry}
-use Rattle.cil_names.proofs.CandidateLemmas.{they_are}
+use Rattle.cil_known.specs.names.Entry.{Entry}
+use Rattle.cil_known.proofs.names_lemmas.AnswerLemmas.{one_entry}
+use Rattle.cil_known.proofs.names_lemmas.CandidateLemmas.{they_are}
 use Rattle.cil_attrs.specs.declared.giver.SetKind.{SetKind}
 use Rattle.cil_attrs.specs.declared.giver.SpaceKinds.{SpaceKinds}
 use Rattle.cil_attrs.specs.Begun.{has_kind, is_sets_kind}

@@ -13,20 +13,20 @@ use Rattle.cil_base.specs.Lists.{Lists, contains_none}
 use Rattle.cil_base.specs.Places.{in_range}
 use Rattle.cil_syntax.specs.declared.kind.Kind.{Kind}
 use Rattle.cil_syntax.specs.Scopes.{ScopedWord}
-use Rattle.cil_macros.specs.Item.{Item}
+use Rattle.cil_known.specs.macros.Item.{Item}
 use Rattle.cil_known.specs.declared.known.Known.{Known}
 use Rattle.cil_syntax.specs.declared.kind.Kind.TheVariants as kinds
 use Rattle.cil_syntax.proofs.KindLemmas.{one_kind}
-use Rattle.cil_names.specs.declared.entry.Entry.{Entry}
-use Rattle.cil_names.specs.Declarations.{Declared, Symbol, name_of}
-use Rattle.cil_names.specs.Entries.{is_declared_in}
+use Rattle.cil_known.specs.names.Entry.{Entry}
+use Rattle.cil_known.specs.names.Declarations.{Declared, Symbol, name_of}
+use Rattle.cil_known.specs.names.Entries.{is_declared_in}
 use Rattle.cil_known.specs.Spaces.{Sets, any_sets, is_declared, is_same_symbol, is_set}
 use Rattle.cil_known.specs.Family.{holds, no_range}
 use Rattle.cil_known.specs.Known.{AreStanding, HaveMembers, IsKnown, IsMemberNumber, IsNumbered, enabled_in, meant_in, set_meant}
-use Rattle.cil_names.specs.Laws.{MeansWhatItNames}
+use Rattle.cil_known.specs.names.Laws.{MeansWhatItNames}
 use Rattle.cil_known.specs.Members.{space_of}
 use Rattle.cil_known.specs.Numbers.{has_section}
-use Rattle.cil_names.specs.Symbols.{symbol_of}
+use Rattle.cil_known.specs.names.Symbols.{symbol_of}
 use Rattle.cil_known.proofs.FamilyLemmas.{one_family, stands_is}
 use Rattle.cil_known.proofs.MemberLemmas.{declared_is, item_of}
 use Rattle.cil_known.proofs.StandingLemmas.{its_symbol}

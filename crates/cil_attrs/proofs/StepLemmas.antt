@@ -12,18 +12,18 @@ use Rattle.cil_syntax.specs.declared.term.Word.{Word}
 use Rattle.cil_syntax.specs.Scopes.{ScopedWord}
 use Rattle.cil_syntax.specs.Terms.{Term, Leaf, Name, Form}
 use Rattle.cil_syntax.proofs.KindLemmas.{one_kind}
-use Rattle.cil_macros.specs.Item.{Item, replaced}
-use Rattle.cil_macros.specs.Items.{Kept, item_at, items_in, word_at}
-use Rattle.cil_macros.proofs.FormLemmas.{leaf_across}
-use Rattle.cil_macros.proofs.ItemLemmas.{item_there}
-use Rattle.cil_names.specs.Declarations.{Symbol}
-use Rattle.cil_names.specs.Entries.{IsAnswer, IsNamed}
+use Rattle.cil_known.specs.macros.Item.{Item, replaced}
+use Rattle.cil_known.specs.macros.Items.{Kept, item_at, items_in, word_at}
+use Rattle.cil_known.proofs.macros_lemmas.FormLemmas.{leaf_across}
+use Rattle.cil_known.proofs.macros_lemmas.ItemLemmas.{item_there}
+use Rattle.cil_known.specs.names.Declarations.{Symbol}
+use Rattle.cil_known.specs.names.Entries.{IsAnswer, IsNamed}
 use Rattle.cil_known.specs.Known.{IsKnown, enabled_in, meant_by, meant_in}
-use Rattle.cil_names.specs.Laws.{MeansWhatItNames}
-use Rattle.cil_names.specs.Symbols.{symbol_of}
-use Rattle.cil_names.specs.Resolves.{wanted_in}
+use Rattle.cil_known.specs.names.Laws.{MeansWhatItNames}
+use Rattle.cil_known.specs.names.Symbols.{symbol_of}
+use Rattle.cil_known.specs.names.Resolves.{wanted_in}
 use Rattle.cil_known.specs.Spaces.{Sets, SpaceOf, is_same_symbol, names}
-use Rattle.cil_names.specs.declared.entry.Entry.{Entry}
+use Rattle.cil_known.specs.names.Entry.{Entry}
 use Rattle.cil_known.specs.declared.known.Known.{Known}
 use Rattle.cil_attrs.specs.declared.making.Given.{Given}
 use Rattle.cil_attrs.specs.declared.targets.Step.{Step}

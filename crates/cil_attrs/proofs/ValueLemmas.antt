@@ -13,7 +13,7 @@ use Rattle.cil_syntax.specs.declared.term.Word.{Word}
 use Rattle.cil_syntax.specs.Said.{all_said, said_of, word_in}
 use Rattle.cil_syntax.specs.Terms.{Terms, nil, cons}
 use Rattle.cil_syntax.proofs.SaidLemmas.{form_said, leaf_said, name_said}
-use Rattle.cil_macros.specs.Item.{all_words_in, words_in}
+use Rattle.cil_known.specs.macros.Item.{all_words_in, words_in}
 use Rattle.cil_sets.specs.declared.part.Joining.{Joining}
 use Rattle.cil_sets.specs.declared.part.Joining.TheVariants.{Union, Both, Either}
 use Rattle.cil_attrs.specs.declared.evaluator.Held.{Held}

@@ -5,7 +5,7 @@ use Rattle.std.proofs.lemmas.List.Elements.{Contains-append_left, Contains-appen
 use Rattle.cil_base.specs.Lists.{contains_here}
 use Rattle.cil_syntax.specs.Expressions.{Complement, EachOf, Everything, OddOf, RangeOf, SomeOf, Way, by_way, differ, is_in, is_in_each, is_in_odd, is_in_some, way_of}
 use Rattle.cil_syntax.specs.Terms.{Term, Leaf, Name, Form, Terms, nil, cons}
-use Rattle.cil_macros.specs.Item.{all_words_in, words_in}
+use Rattle.cil_known.specs.macros.Item.{all_words_in, words_in}
 
 first : (a b : Bool) → (a && b) ≡ true → a ≡ true
 first true b e = refl

@@ -5,14 +5,14 @@ use Rattle.cil_faults.specs.declared.fault.Fault.{Fault}
 use Rattle.cil_syntax.specs.declared.kind.Kind.{Kind}
 use Rattle.cil_syntax.specs.declared.kind.Kind.TheVariants as kinds
 use Rattle.cil_syntax.specs.declared.kind.Sign.{Sign}
-use Rattle.cil_macros.specs.Items.{Kept, items_in}
+use Rattle.cil_known.specs.macros.Items.{Kept, items_in}
 use Rattle.cil_known.specs.Family.{DependsOn, no_range}
 use Rattle.cil_known.specs.Known.{enabled_in}
-use Rattle.cil_names.specs.Laws.{MeansWhatItNames}
+use Rattle.cil_known.specs.names.Laws.{MeansWhatItNames}
 use Rattle.cil_known.specs.Numbers.{AreApart, has_section}
-use Rattle.cil_names.specs.Symbols.{symbol_of}
+use Rattle.cil_known.specs.names.Symbols.{symbol_of}
 use Rattle.cil_known.specs.Spaces.{SpaceOf, any_sets}
-use Rattle.cil_names.specs.declared.entry.Entry.{Entry}
+use Rattle.cil_known.specs.names.Entry.{Entry}
 use Rattle.cil_known.specs.declared.known.Known.{Known}
 use Rattle.cil_attrs.specs.declared.evaluator.Held.{Held}
 use Rattle.cil_attrs.specs.declared.giver.SpaceKinds.{SpaceKinds}

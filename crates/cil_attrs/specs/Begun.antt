@@ -2,9 +2,9 @@
 use Rattle.std.specs.Prelude.{ℕ, Bool, false, ◌&&◌, ◌||◌, if◌then◌else◌, List, [], Option, get_or}
 use Rattle.std.specs.Option.{option_map_or}
 use Rattle.cil_syntax.specs.declared.kind.Kind.{Kind}
-use Rattle.cil_macros.specs.Item.{OptSet}
-use Rattle.cil_names.specs.declared.entry.Entry.{Entry}
-use Rattle.cil_names.specs.Entries.{is_declared_in}
+use Rattle.cil_known.specs.macros.Item.{OptSet}
+use Rattle.cil_known.specs.names.Entry.{Entry}
+use Rattle.cil_known.specs.names.Entries.{is_declared_in}
 use Rattle.cil_attrs.specs.declared.evaluator.Held.{Held}
 use Rattle.cil_attrs.specs.declared.evaluator.Held.TheVariants.{Nothing, Item, Set}
 use Rattle.cil_attrs.specs.declared.giver.SetKind.{SetKind}

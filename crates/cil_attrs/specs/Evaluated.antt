@@ -6,7 +6,7 @@ use Rattle.cil_sets.specs.declared.part.Joining.{Joining}
 use Rattle.cil_sets.specs.declared.part.Joining.TheVariants.{Union, Both, Either, Without}
 use Rattle.cil_syntax.specs.declared.term.Word.{Word}
 use Rattle.cil_syntax.specs.Terms.{Term, Terms, nil, cons}
-use Rattle.cil_macros.specs.Item.{all_words_in, words_in}
+use Rattle.cil_known.specs.macros.Item.{all_words_in, words_in}
 use Rattle.cil_attrs.specs.declared.evaluator.Held.{Held}
 use Rattle.cil_attrs.specs.declared.evaluator.Held.TheVariants.{Nothing, Item, Set}
 use Rattle.cil_attrs.specs.declared.way.Way as rust

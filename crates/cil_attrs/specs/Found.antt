@@ -1,13 +1,13 @@
 -- The family of sets for which made sets stand. No other crate needs these words.
 use Rattle.std.specs.Prelude.{ℕ, Bool, false, ◌&&◌, List, Option, get_or}
 use Rattle.std.specs.Option.{option_map_or}
-use Rattle.cil_names.specs.Declarations.{Symbol}
-use Rattle.cil_names.specs.Entries.{is_declared_in, place_where}
+use Rattle.cil_known.specs.names.Declarations.{Symbol}
+use Rattle.cil_known.specs.names.Entries.{is_declared_in, place_where}
 use Rattle.cil_known.specs.Family.{Family}
 use Rattle.cil_known.specs.Known.{enabled_in}
-use Rattle.cil_names.specs.Symbols.{symbol_of}
+use Rattle.cil_known.specs.names.Symbols.{symbol_of}
 use Rattle.cil_known.specs.Spaces.{SpaceOf, any_sets, is_same_symbol}
-use Rattle.cil_names.specs.declared.entry.Entry.{Entry}
+use Rattle.cil_known.specs.names.Entry.{Entry}
 use Rattle.cil_known.specs.declared.known.Known.{Known}
 use Rattle.cil_attrs.specs.declared.evaluator.Held.{Held}
 use Rattle.cil_attrs.specs.Holding.{is_kind}

@@ -5,15 +5,15 @@ use Rattle.cil_syntax.specs.declared.term.Word.{Word}
 use Rattle.cil_syntax.specs.Forms.{word_and_term}
 use Rattle.cil_syntax.specs.Scopes.{ScopedWord}
 use Rattle.cil_syntax.specs.Terms.{Term}
-use Rattle.cil_macros.specs.Item.{Item, is_enabled, replaced}
-use Rattle.cil_macros.specs.Items.{Kept, item_at, items_in, may_say_lists, says_as_written, word_at}
-use Rattle.cil_names.specs.Resolves.{is_mapping}
-use Rattle.cil_names.specs.declared.entry.Entry.{Entry}
+use Rattle.cil_known.specs.macros.Item.{Item, is_enabled, replaced}
+use Rattle.cil_known.specs.macros.Items.{Kept, item_at, items_in, may_say_lists, says_as_written, word_at}
+use Rattle.cil_known.specs.names.Resolves.{is_mapping}
+use Rattle.cil_known.specs.names.Entry.{Entry}
 use Rattle.cil_known.specs.declared.known.Known.{Known}
-use Rattle.cil_names.specs.Declarations.{Symbol}
-use Rattle.cil_names.specs.Entries.{is_declared_in}
+use Rattle.cil_known.specs.names.Declarations.{Symbol}
+use Rattle.cil_known.specs.names.Entries.{is_declared_in}
 use Rattle.cil_known.specs.Known.{enabled_in, meant_by}
-use Rattle.cil_names.specs.Symbols.{symbol_of}
+use Rattle.cil_known.specs.names.Symbols.{symbol_of}
 use Rattle.cil_known.specs.Spaces.{Sets, SpaceOf, any_sets, is_same_symbol, names}
 use Rattle.cil_attrs.specs.declared.giver.SetKind.{SetKind}
 use Rattle.cil_attrs.specs.declared.giver.SpaceKinds.{SpaceKinds}

@@ -6,14 +6,14 @@ use Rattle.cil_syntax.specs.declared.term.Word.{Word}
 use Rattle.cil_syntax.specs.Kinds.{kind_number}
 use Rattle.cil_syntax.specs.Scopes.{ScopedWord}
 use Rattle.cil_syntax.specs.Terms.{Term}
-use Rattle.cil_macros.specs.Item.{Item, words_in}
-use Rattle.cil_names.specs.declared.entry.Entry.{Entry}
+use Rattle.cil_known.specs.macros.Item.{Item, words_in}
+use Rattle.cil_known.specs.names.Entry.{Entry}
 use Rattle.cil_known.specs.declared.known.Known.{Known}
-use Rattle.cil_names.specs.Declarations.{Declared, Symbol}
-use Rattle.cil_names.specs.Entries.{is_declared_in}
+use Rattle.cil_known.specs.names.Declarations.{Declared, Symbol}
+use Rattle.cil_known.specs.names.Entries.{is_declared_in}
 use Rattle.cil_known.specs.Family.{Family}
 use Rattle.cil_known.specs.Known.{IsNumbered, enabled_in, meant_in}
-use Rattle.cil_names.specs.Symbols.{symbol_of}
+use Rattle.cil_known.specs.names.Symbols.{symbol_of}
 use Rattle.cil_known.specs.Spaces.{SpaceOf, any_sets, is_same_symbol}
 use Rattle.cil_attrs.specs.declared.evaluator.Held.{Held}
 use Rattle.cil_attrs.specs.Evaluated.{is_held}

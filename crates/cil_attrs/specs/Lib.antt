@@ -16,3 +16,4 @@ pub mod Standing
 pub mod Targets
 pub mod known
 pub mod names
+pub mod macros

@@ -4,7 +4,7 @@ use Rattle.std.specs.Option.{option_map_or}
 use Rattle.cil_syntax.specs.declared.term.Word.{Word}
 use Rattle.cil_syntax.specs.Said.{said_of}
 use Rattle.cil_syntax.specs.Terms.{Term}
-use Rattle.cil_macros.specs.Item.{words_in}
+use Rattle.cil_known.specs.macros.Item.{words_in}
 use Rattle.cil_attrs.specs.declared.evaluator.Held.{Held}
 use Rattle.cil_attrs.specs.declared.evaluator.Held.TheVariants.{Nothing, Set}
 use Rattle.cil_attrs.specs.declared.making.Given.{Given}

@@ -5,10 +5,10 @@ use Rattle.std.specs.Ordering.{nat_cmp}
 use Rattle.cil_base.specs.Lists.{Lists}
 use Rattle.cil_syntax.specs.declared.kind.Kind.{Kind}
 use Rattle.cil_syntax.specs.declared.term.Word.{Word}
-use Rattle.cil_macros.specs.Item.{Item}
-use Rattle.cil_macros.specs.Items.{Kept, items_in, word_at}
-use Rattle.cil_names.specs.Declarations.{Symbol}
-use Rattle.cil_names.specs.declared.entry.Entry.{Entry}
+use Rattle.cil_known.specs.macros.Item.{Item}
+use Rattle.cil_known.specs.macros.Items.{Kept, items_in, word_at}
+use Rattle.cil_known.specs.names.Declarations.{Symbol}
+use Rattle.cil_known.specs.names.Entry.{Entry}
 use Rattle.cil_known.specs.declared.known.Known.{Known}
 use Rattle.cil_known.specs.Family.{Family, IsRanked, Solves, no_range}
 use Rattle.cil_known.specs.Known.{IsKnown, enabled_in, meant_in}

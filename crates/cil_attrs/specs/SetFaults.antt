@@ -13,8 +13,8 @@ use Rattle.cil_syntax.specs.Forms.{word_and_term}
 use Rattle.cil_syntax.specs.Scopes.{ScopedWord}
 use Rattle.cil_syntax.specs.Table.{entry_of}
 use Rattle.cil_syntax.specs.Terms.{Leaf, Name, Terms, cons}
-use Rattle.cil_macros.specs.Item.{Item, OptSet, is_enabled}
-use Rattle.cil_names.specs.Declarations.{Declared, Symbol, name_of, nowhere}
+use Rattle.cil_known.specs.macros.Item.{Item, OptSet, is_enabled}
+use Rattle.cil_known.specs.names.Declarations.{Declared, Symbol, name_of, nowhere}
 use Rattle.cil_known.specs.Family.{DependsOn, no_range}
 use Rattle.cil_known.specs.Spaces.{Sets, SpaceOf, names}
 

@@ -12,15 +12,15 @@ use Rattle.cil_syntax.specs.Forms.{word_and_term}
 use Rattle.cil_syntax.specs.Scopes.{ScopedWord}
 use Rattle.cil_syntax.specs.Terms.{Term, Leaf, Name, Form}
 use Rattle.cil_syntax.specs.declared.term.Word.{Word}
-use Rattle.cil_macros.specs.blocks.Space as blocks
-use Rattle.cil_macros.specs.Item.{Item, OptSet}
-use Rattle.cil_macros.specs.Items.{Kept, item_at, items_in, may_say_lists, says_as_written}
-use Rattle.cil_names.specs.Declarations.{Symbol}
+use Rattle.cil_known.specs.macros.blocks.Space as blocks
+use Rattle.cil_known.specs.macros.Item.{Item, OptSet}
+use Rattle.cil_known.specs.macros.Items.{Kept, item_at, items_in, may_say_lists, says_as_written}
+use Rattle.cil_known.specs.names.Declarations.{Symbol}
 use Rattle.cil_known.specs.Known.{enabled_in}
-use Rattle.cil_names.specs.Symbols.{symbol_of}
+use Rattle.cil_known.specs.names.Symbols.{symbol_of}
 use Rattle.cil_known.specs.Family.{DependsOn, no_range}
 use Rattle.cil_known.specs.Spaces.{Sets, SpaceOf, any_sets}
-use Rattle.cil_names.specs.declared.entry.Entry.{Entry}
+use Rattle.cil_known.specs.names.Entry.{Entry}
 use Rattle.cil_known.specs.declared.known.Known.{Known}
 use Rattle.cil_attrs.specs.declared.making.Given.{Given}
 use Rattle.cil_attrs.specs.declared.targets.Step.{Step}

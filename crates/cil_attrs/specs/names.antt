@@ -1,8 +1,8 @@
 -- What crates above take of cil_names.
-pub use Rattle.cil_names.specs.Declarations
-pub use Rattle.cil_names.specs.Entries
-pub use Rattle.cil_names.specs.Laws
-pub use Rattle.cil_names.specs.Resolves
-pub use Rattle.cil_names.specs.Rows
-pub use Rattle.cil_names.specs.Symbols
-pub use Rattle.cil_names.specs.declared.entry.Entry
+pub use Rattle.cil_known.specs.names.Declarations
+pub use Rattle.cil_known.specs.names.Entries
+pub use Rattle.cil_known.specs.names.Laws
+pub use Rattle.cil_known.specs.names.Resolves
+pub use Rattle.cil_known.specs.names.Rows
+pub use Rattle.cil_known.specs.names.Symbols
+pub use Rattle.cil_known.specs.names.Entry

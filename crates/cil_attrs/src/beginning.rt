@@ -4,8 +4,8 @@ ghost use Rattle.std.specs.Prelude.{◌≡◌, ◌<◌, ℕ, IfOk, List, Some, g
 ghost use Rattle.std.specs.Ordering.{nat_cmp};
 ghost use Rattle.cil_base.specs.Lists.{Lists};
 ghost use Rattle.cil_syntax.specs.declared.kind.Kind as kinds;
-ghost use Rattle.cil_macros.specs.Item.{Item};
-ghost use Rattle.cil_names.specs.declared.entry.Entry.{Entry as Declared};
+ghost use Rattle.cil_known.specs.macros.Item.{Item};
+ghost use Rattle.cil_known.specs.names.Entry.{Entry as Declared};
 ghost use Rattle.cil_known.specs.declared.known.Known.{Known as Lookups};
 ghost use Rattle.cil_known.specs.Known.{IsKnown, enabled_in};
 ghost use Rattle.cil_known.specs.Spaces.{SpaceOf};

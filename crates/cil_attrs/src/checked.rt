@@ -3,11 +3,11 @@
 ghost use Rattle.std.specs.Prelude.{◌≡◌, IfOk, List, map, ℕ};
 ghost use Rattle.cil_faults.specs.Refusal.{Answers};
 ghost use Rattle.cil_syntax.specs.declared.kind.Kind as kinds;
-ghost use Rattle.cil_macros.specs.Items.{Kept, items_in, namespaces_in};
+ghost use Rattle.cil_known.specs.macros.Items.{Kept, items_in, namespaces_in};
 ghost use Rattle.cil_known.specs.declared.known.Known.{Known as Lookups};
 ghost use Rattle.cil_known.specs.Known.{IsKnown, enabled_in, row_in};
 ghost use Rattle.cil_known.specs.Numbers.{AreApart};
-ghost use Rattle.cil_names.specs.Rows.{IsTableOf};
+ghost use Rattle.cil_known.specs.names.Rows.{IsTableOf};
 ghost use Rattle.cil_known.specs.Spaces.{SpaceOf};
 ghost use Rattle.cil_attrs.specs.Givers.{AreGifts, AreWritten, HasKinds};
 ghost use Rattle.cil_attrs.specs.Laws.{IsSpace};
@@ -29,8 +29,8 @@ use crate::plain::all_plain;
 use crate::space::{Limit, Space};
 use cil_base::{Bytes, NoMemory};
 use cil_known::Known;
-use cil_macros::Instances;
-use cil_names::laws;
+use cil_known::macros::Instances;
+use cil_known::names::laws;
 use cil_syntax::{Failure, Sign};
 use std::alloc::Global;
 

@@ -4,16 +4,16 @@ ghost use Rattle.std.specs.Prelude.{◌≡◌, ◌↔◌, ◌<◌, ◌⊎◌, �
 ghost use Rattle.cil_faults.specs.Reported.{fault_at};
 ghost use Rattle.cil_faults.specs.declared.code.FaultCode as causes;
 ghost use Rattle.cil_faults.specs.declared.fault.Fault.{Fault as AFault};
-ghost use Rattle.cil_macros.specs.Items.{item_at, items_in, namespaces_in};
+ghost use Rattle.cil_known.specs.macros.Items.{item_at, items_in, namespaces_in};
 ghost use Rattle.cil_syntax.specs.Kinds.{is_wanted};
 ghost use Rattle.cil_syntax.specs.Table.{entry_of};
-ghost use Rattle.cil_names.specs.Entries.{AreEntries, is_in};
+ghost use Rattle.cil_known.specs.names.Entries.{AreEntries, is_in};
 ghost use Rattle.cil_attrs.specs.Targets.{IsToldAt, IsToldIn};
 
 use cil_base::NoMemory;
-use cil_macros::Instances;
-use cil_macros::blocks::spelled::spelled;
-use cil_names::Lookup;
+use cil_known::macros::Instances;
+use cil_known::macros::blocks::spelled::spelled;
+use cil_known::names::Lookup;
 use cil_syntax::{DeclaredName, Fault, FaultCode, Keyword, Kind, Sign, push_fault_in};
 use std::alloc::Global;
 

@@ -8,20 +8,20 @@ ghost use Rattle.cil_syntax.specs.Forms.{word_and_term as the_word_and_term};
 ghost use Rattle.cil_syntax.specs.Said.{all_said, said_of};
 ghost use Rattle.cil_syntax.specs.Scopes.{ScopedWord};
 ghost use Rattle.cil_syntax.specs.Terms.{Leaf, cons, nil};
-ghost use Rattle.cil_macros.specs.Item.{Item};
-ghost use Rattle.cil_macros.specs.Items.{item_at, items_in, says_as_written, word_at};
+ghost use Rattle.cil_known.specs.macros.Item.{Item};
+ghost use Rattle.cil_known.specs.macros.Items.{item_at, items_in, says_as_written, word_at};
 ghost use Rattle.cil_known.specs.Known.{IsKnown, meant_in, row_in};
 ghost use Rattle.std.specs.Option.{option_map_or};
-ghost use Rattle.cil_names.specs.Rows.{IsTableOf};
+ghost use Rattle.cil_known.specs.names.Rows.{IsTableOf};
 ghost use Rattle.cil_known.specs.Spaces.{Sets, SpaceOf, any_sets};
 ghost use Rattle.cil_attrs.specs.Givers.{AreGifts, AreSets, AreWritten, GivesNothing, IsGift, IsNamedSet, IsSets, HasKinds, NamesNoSet};
 ghost use Rattle.cil_attrs.specs.Holding.{is_kind};
 
 use crate::making::Given;
 use cil_base::NoMemory;
+use cil_known::macros::Instances;
+use cil_known::names::{Meaning, laws, same_keyword};
 use cil_known::{Known, behind_first, meaning_at};
-use cil_macros::Instances;
-use cil_names::{Meaning, laws, same_keyword};
 use cil_syntax::{Keyword, Kind, Term, word_and_terms};
 use std::alloc::Global;
 

@@ -30,7 +30,7 @@ mod way;
 
 pub use checked::members;
 pub use cil_known as known;
-pub use cil_names as names;
+pub use cil_known::{macros, names};
 pub use declared::{Told, declares, push_declared};
 pub use evaluator::{Evaluator, Held};
 pub use faults::check_sets;

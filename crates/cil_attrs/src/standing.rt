@@ -4,7 +4,7 @@ ghost use Rattle.std.specs.Prelude.{◌≡◌, ◌<◌, ℕ, IfOk, List, Some, l
 ghost use Rattle.std.specs.Ordering.{nat_cmp};
 ghost use Rattle.cil_base.specs.Lists.{Lists};
 ghost use Rattle.cil_syntax.specs.declared.kind.Kind as kinds;
-ghost use Rattle.cil_macros.specs.Item.{Item};
+ghost use Rattle.cil_known.specs.macros.Item.{Item};
 ghost use Rattle.cil_known.specs.declared.known.Known.{Known as Lookups};
 ghost use Rattle.cil_known.specs.Known.{AreStanding, HaveMembers, IsKnown};
 ghost use Rattle.cil_known.specs.Members.{space_of};
@@ -16,7 +16,7 @@ ghost use Rattle.cil_attrs.specs.Standing.{AreAllBelow, AreBelow};
 
 use crate::evaluator::Held;
 use cil_base::NoMemory;
-use cil_names::laws;
+use cil_known::names::laws;
 use cil_sets::{Joining, Numbers};
 use std::alloc::Global;
 

@@ -4,9 +4,9 @@
 ghost use Rattle.std.specs.Prelude.{◌≡◌, ◌↔◌, ◌<◌, ◌⊎◌, ◌++◌, ℕ, Contains, IfOk, IsTrue, List, None, OnOk, Option, Some, false, get_or, length, map, not, slice_get, true};
 ghost use Rattle.std.specs.Option.{is_some, option_map_or};
 ghost use Rattle.cil_syntax.specs.declared.kind.Kind as kinds;
-ghost use Rattle.cil_macros.specs.Items.{items_in};
+ghost use Rattle.cil_known.specs.macros.Items.{items_in};
 ghost use Rattle.cil_known.specs.Known.{IsKnown, row_in};
-ghost use Rattle.cil_names.specs.Rows.{IsTableOf};
+ghost use Rattle.cil_known.specs.names.Rows.{IsTableOf};
 ghost use Rattle.cil_known.specs.Spaces.{Sets};
 ghost use Rattle.cil_attrs.specs.declared.targets.Step.{Step as AStep};
 ghost use Rattle.cil_attrs.specs.Givers.{IsSets, SaysItsTerms};
@@ -16,9 +16,9 @@ ghost use Rattle.cil_attrs.specs.Targets.{AreLast, AreSteps, HasOther, IsFlagged
 use crate::giver::{SetKind, SpaceKinds, givens_of, is_same_kind};
 use crate::making::Given;
 use cil_base::NoMemory;
+use cil_known::macros::Instances;
+use cil_known::names::{Entry, laws};
 use cil_known::{Known, meaning_at};
-use cil_macros::Instances;
-use cil_names::{Entry, laws};
 use cil_syntax::{Kind, Term};
 use std::alloc::Global;
 

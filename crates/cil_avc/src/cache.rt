@@ -3,14 +3,14 @@
 ghost use Rattle.std.specs.Prelude.{◌≡◌, ◌≤◌, [], length, take, IfOk};
 ghost use Rattle.std.specs.Map.{lookup};
 ghost use Rattle.std.specs.NonZero.{non_zero_usize_get};
-ghost use Rattle.cil_conditions.specs.Bits.{is_on};
+ghost use Rattle.cil_decide.specs.conditions.Bits.{is_on};
 ghost use Rattle.cil_decide.specs.Decides.{Decided};
 ghost use Rattle.cil_avc.specs.Cache.{IsTrueFor, Uses};
 
 use crate::key::Key;
 use cil_base::NoMemory;
-use cil_conditions::Settings;
 use cil_decide::classes::ClassId;
+use cil_decide::conditions::Settings;
 use cil_decide::constraints_crate::Context;
 use cil_decide::tables::Tables;
 use cil_decide::{Decision, decide};

@@ -12,7 +12,7 @@ use Rattle.cil_syntax.specs.declared.kind.Kind.{Kind}
 use Rattle.cil_syntax.specs.declared.kind.Kind.TheVariants as kinds
 use Rattle.cil_names.specs.declared.entry.Entry.{Entry}
 use Rattle.cil_known.specs.declared.numbers.Sections.{Sections}
-use Rattle.cil_blocks.specs.declared.namespaces.Space.{Space}
+use Rattle.cil_macros.specs.blocks.Space.{Space}
 use Rattle.cil_names.specs.Entries.{is_declared_in}
 use Rattle.cil_macros.specs.Item.{OptSet}
 use Rattle.cil_known.specs.Numbers.{AreApart, AreNumbers, has_section, names_of, spelled_of}

@@ -16,8 +16,8 @@ use Rattle.cil_base.specs.Lists.{not_below_itself}
 use Rattle.cil_base.specs.Paths.{below_by, same_by}
 use Rattle.cil_base.specs.Places.{get_at, get_contains, in_range, some_at}
 use Rattle.cil_base.specs.Rising.{rises_between}
-use Rattle.cil_blocks.specs.Namespaces.{AreNamespaces}
-use Rattle.cil_blocks.specs.declared.namespaces.Space.{Space}
+use Rattle.cil_macros.specs.blocks.Namespaces.{AreNamespaces}
+use Rattle.cil_macros.specs.blocks.Space.{Space}
 use Rattle.cil_faults.specs.Reported.{fault_at}
 use Rattle.cil_faults.specs.declared.code.FaultCode.TheVariants as causes
 use Rattle.cil_faults.specs.declared.fault.Fault.{Fault}

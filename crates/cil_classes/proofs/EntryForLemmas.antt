@@ -9,8 +9,8 @@ use Rattle.cil_syntax.specs.declared.kind.Sign.{Sign}
 use Rattle.cil_syntax.specs.declared.kind.Sign.TheVariants as signs
 use Rattle.cil_syntax.specs.Kinds.{is_wanted}
 use Rattle.cil_syntax.specs.Scopes.{ScopedWord, asked}
-use Rattle.cil_blocks.specs.Namespaces.{AreNamespaces, space_at}
-use Rattle.cil_blocks.specs.declared.namespaces.Space.{Space}
+use Rattle.cil_macros.specs.blocks.Namespaces.{AreNamespaces, space_at}
+use Rattle.cil_macros.specs.blocks.Space.{Space}
 use Rattle.cil_macros.specs.Item.{Item}
 use Rattle.cil_names.proofs.AnswerLemmas.{one_entry}
 use Rattle.cil_names.proofs.CandidateLemmas.{parts_of, they_are}

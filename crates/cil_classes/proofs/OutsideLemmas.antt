@@ -9,8 +9,8 @@ use Rattle.std.proofs.lemmas.Bool.{and_parts, cases_Bool, true≢false}
 use Rattle.std.proofs.lemmas.Option.{same_Some}
 use Rattle.cil_base.specs.Places.{get_contains}
 use Rattle.cil_base.specs.Searches.{any_true}
-use Rattle.cil_blocks.specs.Namespaces.{AreNamespaces, space_at}
-use Rattle.cil_blocks.specs.declared.namespaces.Space.{Space}
+use Rattle.cil_macros.specs.blocks.Namespaces.{AreNamespaces, space_at}
+use Rattle.cil_macros.specs.blocks.Space.{Space}
 use Rattle.cil_macros.specs.Item.{Item, is_enabled, nobody}
 use Rattle.cil_names.proofs.AnswerLemmas.{one_entry}
 use Rattle.cil_names.proofs.CandidateLemmas.{they_are}

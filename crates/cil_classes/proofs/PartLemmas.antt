@@ -7,7 +7,7 @@ use Rattle.std.proofs.lemmas.Option.{same_Some, slice_get-map}
 use Rattle.cil_base.specs.Lists.{Lists, contains_none, text_cmp}
 use Rattle.cil_base.proofs.NameSearches.{number_is}
 use Rattle.cil_base.specs.Places.{get_at, get_contains}
-use Rattle.cil_blocks.specs.Namespaces.{space_at}
+use Rattle.cil_macros.specs.blocks.Namespaces.{space_at}
 use Rattle.cil_syntax.specs.Forms.{class_form}
 use Rattle.cil_syntax.specs.Kinds.{is_wanted}
 use Rattle.cil_syntax.specs.declared.kind.Kind.{Kind}

@@ -31,7 +31,7 @@ use Rattle.cil_names.proofs.PermissionLemmas.{class_declares}
 use Rattle.cil_names.proofs.CandidateLemmas.{they_are}
 use Rattle.cil_names.specs.declared.entry.Entry.{Entry}
 use Rattle.cil_syntax.specs.declared.program.Statement.{Statement}
-use Rattle.cil_blocks.specs.declared.namespaces.Space.{Space}
+use Rattle.cil_macros.specs.blocks.Space.{Space}
 use Rattle.cil_names.specs.Declarations.{Declaration, Symbol, by, content_of, declarations, declared_by}
 use Rattle.cil_names.specs.Entries.{AreEntries, HasNoEntryIn, IsEntryIn, is_entry_of}
 use Rattle.cil_macros.specs.Item.{Item, OptSet, all_replaced, is_enabled}
@@ -39,7 +39,7 @@ use Rattle.cil_macros.specs.Items.{Kept, item_at, may_say_lists, placed_at, says
 use Rattle.cil_names.specs.Symbols.{symbol_of}
 use Rattle.cil_names.specs.Resolves.{has_permission}
 use Rattle.cil_syntax.specs.Kinds.{is_wanted}
-use Rattle.cil_blocks.specs.Namespaces.{space_at}
+use Rattle.cil_macros.specs.blocks.Namespaces.{space_at}
 use Rattle.cil_names.specs.Unresolved.{ArePermissions, listed_at}
 use Rattle.cil_macros.proofs.ItemsThere.{keyword_there, named_there}
 use Rattle.cil_classes.specs.Faults.{ClassFault, HasManyClasses, too_many, two_commons, wide}

@@ -19,3 +19,5 @@ pub mod Tied
 pub mod Values
 pub mod Widths
 pub mod blocks
+pub mod known
+pub mod names

@@ -2,7 +2,7 @@
 use Rattle.std.specs.Prelude.{◌≡◌, ◌↔◌, ◌⊎◌, ◌<◌, ℕ, Bool, true, Contains, List, MatchOption, Option, length}
 use Rattle.std.specs.Global.{Vec}
 use Rattle.cil_base.specs.declared.bytes.Bytes.{Bytes}
-use Rattle.cil_blocks.specs.Namespaces.{AreNamespaces}
+use Rattle.cil_macros.specs.blocks.Namespaces.{AreNamespaces}
 use Rattle.cil_base.specs.Lists.{Lists, text_cmp}
 use Rattle.cil_faults.specs.declared.code.FaultCode.TheVariants as causes
 use Rattle.cil_faults.specs.declared.fault.Fault.{Fault}

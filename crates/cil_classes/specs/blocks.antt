@@ -1,3 +1,3 @@
 -- What crates above take of cil_blocks.
-pub use Rattle.cil_blocks.specs.Contents
-pub use Rattle.cil_blocks.specs.Namespaces
+pub use Rattle.cil_macros.specs.blocks.Contents
+pub use Rattle.cil_macros.specs.blocks.Namespaces

@@ -9,3 +9,4 @@ pub mod PlaceLemmas
 pub mod SettingLemmas
 pub mod ValueLemmas
 pub mod WalkLemmas
+pub use Rattle.cil_known.proofs as known_lemmas

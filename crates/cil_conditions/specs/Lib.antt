@@ -8,3 +8,4 @@ pub mod Order
 pub mod Spelled
 pub mod Truth
 pub mod Walk
+pub mod known

@@ -19,6 +19,7 @@ mod walk;
 
 pub use branch::Branch;
 pub use branches::{Branches, branches_of};
+pub use cil_known as known;
 pub use condition::{Cond, is_expression};
 pub use settings::{MOST_BOOLEANS, Settings};
 pub use token::Token;

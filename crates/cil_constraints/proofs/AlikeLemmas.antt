@@ -9,7 +9,7 @@ use Rattle.cil_syntax.specs.Scopes.{ScopedWord}
 use Rattle.cil_syntax.specs.Terms.{Term, Leaf, Name, Form, Terms, nil, cons}
 use Rattle.cil_macros.specs.Item.{Item, OptSet, all_replaced, replaced}
 use Rattle.cil_macros.specs.ListTerms.{AreAlike, IsAlike, all_spotless, spotless}
-use Rattle.cil_names.specs.Declarations.{name_of}
+use Rattle.cil_classes.specs.names.Declarations.{name_of}
 use Rattle.cil_classes.specs.declared.row.Class.{Class}
 use Rattle.cil_classes.specs.Given.{HasPair}
 use Rattle.cil_classes.proofs.AlikeLemmas.{IsLike, like_back, pair_alike}

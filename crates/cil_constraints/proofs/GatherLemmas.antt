@@ -16,7 +16,7 @@ use Rattle.cil_syntax.specs.declared.kind.Keyword.TheVariants as keywords
 use Rattle.cil_macros.specs.Item.{Item, OptSet}
 use Rattle.cil_macros.specs.Items.{says_as_written}
 use Rattle.cil_mls.specs.OrderFaults.{Switches}
-use Rattle.cil_names.specs.Resolves.{is_mapping}
+use Rattle.cil_classes.specs.names.Resolves.{is_mapping}
 use Rattle.cil_constraints.specs.declared.mask.Constraint.{Constraint}
 use Rattle.cil_constraints.specs.Compiled.{ConstraintCase, IsConstraintCase}
 use Rattle.cil_constraints.specs.Constrained.{IsConstraining}

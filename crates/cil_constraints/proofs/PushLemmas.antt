@@ -18,12 +18,12 @@ use Rattle.cil_syntax.specs.Scopes.{ScopedWord}
 use Rattle.cil_syntax.specs.Terms.{Term}
 use Rattle.cil_syntax.proofs.SaidLemmas.{form_said}
 use Rattle.cil_macros.specs.Item.{Item, all_replaced}
-use Rattle.cil_names.specs.Unresolved.{term_with, terms_with}
-use Rattle.cil_names.proofs.AskedLemmas.{all_asked_in, asked_in, more_asked, none_asked}
-use Rattle.cil_names.proofs.UnresolvedLemmas.{scoped_form, scoped_leaf, scoped_name}
-use Rattle.cil_known.specs.declared.known.Known.{Known}
-use Rattle.cil_known.specs.Known.{BeginWith, IsKnown, enabled_in}
-use Rattle.cil_known.proofs.BehindLemmas.{behind_form}
+use Rattle.cil_classes.specs.names.Unresolved.{term_with, terms_with}
+use Rattle.cil_classes.proofs.names_lemmas.AskedLemmas.{all_asked_in, asked_in, more_asked, none_asked}
+use Rattle.cil_classes.proofs.names_lemmas.UnresolvedLemmas.{scoped_form, scoped_leaf, scoped_name}
+use Rattle.cil_classes.specs.known.DeclaredKnown.{Known}
+use Rattle.cil_classes.specs.known.Known.{BeginWith, IsKnown, enabled_in}
+use Rattle.cil_classes.proofs.known_lemmas.BehindLemmas.{behind_form}
 use Rattle.cil_constraints.specs.declared.joins.Joins.{Joins}
 use Rattle.cil_constraints.specs.declared.joins.Joins.TheVariants as joins
 use Rattle.cil_constraints.specs.declared.push.Standing.{Standing}

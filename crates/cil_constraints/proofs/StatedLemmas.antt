@@ -16,11 +16,11 @@ use Rattle.cil_syntax.specs.Scopes.{ScopedWord}
 use Rattle.cil_syntax.specs.Terms.{Term, Terms, nil, cons}
 use Rattle.cil_macros.specs.Item.{Item, OptSet, all_replaced, is_enabled}
 use Rattle.cil_macros.proofs.FormLemmas.{across, all_across}
-use Rattle.cil_names.specs.Declarations.{Declared, Symbol}
-use Rattle.cil_names.specs.Resolves.{all_wanted_in, wanted_in}
-use Rattle.cil_known.specs.declared.known.Known.{Known}
-use Rattle.cil_known.specs.Known.{BeginWith, IsKnown, enabled_in, meant_by, value_in, wanted_with}
-use Rattle.cil_known.specs.Numbers.{AreApart}
+use Rattle.cil_classes.specs.names.Declarations.{Declared, Symbol}
+use Rattle.cil_classes.specs.names.Resolves.{all_wanted_in, wanted_in}
+use Rattle.cil_classes.specs.known.DeclaredKnown.{Known}
+use Rattle.cil_classes.specs.known.Known.{BeginWith, IsKnown, enabled_in, meant_by, value_in, wanted_with}
+use Rattle.cil_classes.specs.known.Numbers.{AreApart}
 use Rattle.cil_classes.specs.declared.row.Class.{Class}
 use Rattle.cil_classes.specs.declared.row.ClassId.{ClassId}
 use Rattle.cil_classes.specs.Given.{HasPair, of_class, of_map, of_name}

@@ -8,15 +8,15 @@ use Rattle.cil_base.specs.Lists.{Lists}
 use Rattle.cil_syntax.specs.declared.kind.Kind.{Kind}
 use Rattle.cil_syntax.specs.Scopes.{ScopedWord}
 use Rattle.cil_macros.specs.Item.{Item, OptSet}
-use Rattle.cil_names.specs.declared.entry.Entry.{Entry}
-use Rattle.cil_names.specs.Declarations.{Declared, Symbol}
-use Rattle.cil_names.specs.Entries.{is_declared_in}
-use Rattle.cil_names.specs.Symbols.{symbol_of}
-use Rattle.cil_names.proofs.DeclareDecided.{symbol_by}
-use Rattle.cil_known.specs.declared.known.Known.{Known}
-use Rattle.cil_known.specs.Known.{IsKnown, IsNumbered, enabled_in}
-use Rattle.cil_known.specs.Numbers.{AreApart, has_section}
-use Rattle.cil_known.proofs.StandingLemmas.{one_number}
+use Rattle.cil_classes.specs.names.Entry.{Entry}
+use Rattle.cil_classes.specs.names.Declarations.{Declared, Symbol}
+use Rattle.cil_classes.specs.names.Entries.{is_declared_in}
+use Rattle.cil_classes.specs.names.Symbols.{symbol_of}
+use Rattle.cil_classes.proofs.names_lemmas.DeclareDecided.{symbol_by}
+use Rattle.cil_classes.specs.known.DeclaredKnown.{Known}
+use Rattle.cil_classes.specs.known.Known.{IsKnown, IsNumbered, enabled_in}
+use Rattle.cil_classes.specs.known.Numbers.{AreApart, has_section}
+use Rattle.cil_classes.proofs.known_lemmas.StandingLemmas.{one_number}
 use Rattle.cil_constraints.specs.declared.expr.Context.{Context as Numbers}
 use Rattle.cil_constraints.specs.declared.step.Part.{Part}
 use Rattle.cil_constraints.specs.declared.step.Part.TheVariants as parts

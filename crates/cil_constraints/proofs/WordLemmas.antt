@@ -24,14 +24,14 @@ use Rattle.cil_syntax.specs.Forms.{is_class_list}
 use Rattle.cil_syntax.specs.Said.{said_of, word_in}
 use Rattle.cil_syntax.specs.Scopes.{ScopedWord}
 use Rattle.cil_macros.specs.Item.{Item, OptSet, all_replaced}
-use Rattle.cil_names.specs.Resolves.{Word as AWord}
-use Rattle.cil_names.specs.Unresolved.{term_with, terms_with}
-use Rattle.cil_names.proofs.AskedLemmas.{all_asked_in, asked_in, form_asked, leaf_asked, more_asked}
-use Rattle.cil_names.proofs.UnresolvedLemmas.{scoped_form, scoped_leaf, scoped_name}
-use Rattle.cil_known.specs.declared.known.Known.{Known}
-use Rattle.cil_known.specs.Members.{StandsFor}
-use Rattle.cil_known.specs.Known.{AreStanding, BeginWith, HasNumberFor, enabled_in, meant_in, set_meant, value_in, wanted_with}
-use Rattle.cil_known.proofs.BehindLemmas.{behind_leaf, behind_name}
+use Rattle.cil_classes.specs.names.Resolves.{Word as AWord}
+use Rattle.cil_classes.specs.names.Unresolved.{term_with, terms_with}
+use Rattle.cil_classes.proofs.names_lemmas.AskedLemmas.{all_asked_in, asked_in, form_asked, leaf_asked, more_asked}
+use Rattle.cil_classes.proofs.names_lemmas.UnresolvedLemmas.{scoped_form, scoped_leaf, scoped_name}
+use Rattle.cil_classes.specs.known.DeclaredKnown.{Known}
+use Rattle.cil_classes.specs.known.Members.{StandsFor}
+use Rattle.cil_classes.specs.known.Known.{AreStanding, BeginWith, HasNumberFor, enabled_in, meant_in, set_meant, value_in, wanted_with}
+use Rattle.cil_classes.proofs.known_lemmas.BehindLemmas.{behind_leaf, behind_name}
 use Rattle.cil_constraints.specs.declared.step.Part.{Part}
 use Rattle.cil_constraints.specs.Numbered.{HasNumberAmong}
 use Rattle.cil_constraints.specs.Contexts.{kind_of}

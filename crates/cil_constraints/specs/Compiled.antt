@@ -5,8 +5,8 @@ use Rattle.cil_syntax.specs.declared.kind.Kind.{Kind}
 use Rattle.cil_syntax.specs.Terms.{Term, nil, cons}
 use Rattle.cil_syntax.specs.Scopes.{ScopedWord}
 use Rattle.cil_macros.specs.Item.{Item, OptSet}
-use Rattle.cil_names.specs.Declarations.{Symbol, name_of}
-use Rattle.cil_known.specs.Says.{Says}
+use Rattle.cil_classes.specs.names.Declarations.{Symbol, name_of}
+use Rattle.cil_classes.specs.known.Says.{Says}
 use Rattle.cil_classes.specs.declared.row.Class.{Class}
 use Rattle.cil_classes.specs.Given.{HasPair}
 use Rattle.cil_constraints.specs.declared.mask.Constraint.{Constraint}

@@ -5,8 +5,8 @@ use Rattle.cil_syntax.specs.declared.kind.Keyword.TheVariants as keywords
 use Rattle.cil_syntax.specs.Terms.{Term, nil, cons}
 use Rattle.cil_syntax.specs.Scopes.{ScopedWord}
 use Rattle.cil_macros.specs.Item.{Item, OptSet}
-use Rattle.cil_names.specs.Declarations.{Symbol}
-use Rattle.cil_known.specs.Says.{Says}
+use Rattle.cil_classes.specs.names.Declarations.{Symbol}
+use Rattle.cil_classes.specs.known.Says.{Says}
 use Rattle.cil_classes.specs.Given.{HasPair}
 use Rattle.cil_mls.specs.OrderFaults.{Switches}
 use Rattle.cil_constraints.specs.Expressions.{Expression}

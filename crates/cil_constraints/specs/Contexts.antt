@@ -5,8 +5,8 @@ use Rattle.cil_syntax.specs.declared.kind.Kind.{Kind}
 use Rattle.cil_syntax.specs.declared.kind.Kind.TheVariants as kinds
 use Rattle.cil_syntax.specs.Scopes.{ScopedWord}
 use Rattle.cil_macros.specs.Item.{Item, OptSet}
-use Rattle.cil_names.specs.Declarations.{Symbol}
-use Rattle.cil_known.specs.Members.{StandsFor}
+use Rattle.cil_classes.specs.names.Declarations.{Symbol}
+use Rattle.cil_classes.specs.known.Members.{StandsFor}
 use Rattle.cil_mls.specs.declared.level.Level.{Level}
 use Rattle.cil_constraints.specs.declared.step.Part.{Part}
 use Rattle.cil_constraints.specs.declared.step.Part.TheVariants as parts

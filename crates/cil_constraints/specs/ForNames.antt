@@ -3,9 +3,9 @@ use Rattle.std.specs.Prelude.{ℕ, List}
 use Rattle.cil_syntax.specs.declared.kind.Kind.{Kind}
 use Rattle.cil_syntax.specs.declared.kind.Kind.TheVariants as kinds
 use Rattle.cil_macros.specs.Item.{Item}
-use Rattle.cil_known.specs.declared.known.Known.{Known}
-use Rattle.cil_known.specs.Known.{IsKnown, enabled_in}
-use Rattle.cil_known.specs.Numbers.{AreApart}
+use Rattle.cil_classes.specs.known.DeclaredKnown.{Known}
+use Rattle.cil_classes.specs.known.Known.{IsKnown, enabled_in}
+use Rattle.cil_classes.specs.known.Numbers.{AreApart}
 use Rattle.cil_classes.specs.declared.row.Class.{Class}
 use Rattle.cil_classes.specs.declared.held.GivenPermissions.{GivenPermissions}
 use Rattle.cil_classes.specs.ClassRows.{AreClasses}

@@ -5,9 +5,9 @@ use Rattle.std.specs.declared.cmp.Ordering.TheVariants.{Equal}
 use Rattle.cil_syntax.specs.declared.kind.Kind.{Kind}
 use Rattle.cil_syntax.specs.Scopes.{ScopedWord}
 use Rattle.cil_macros.specs.Item.{Item}
-use Rattle.cil_known.specs.declared.known.Known.{Known}
-use Rattle.cil_known.specs.Known.{IsKnown, enabled_in}
-use Rattle.cil_known.specs.Numbers.{AreApart}
+use Rattle.cil_classes.specs.known.DeclaredKnown.{Known}
+use Rattle.cil_classes.specs.known.Known.{IsKnown, enabled_in}
+use Rattle.cil_classes.specs.known.Numbers.{AreApart}
 use Rattle.cil_constraints.specs.declared.expr.Context.{Context as Numbers}
 use Rattle.cil_constraints.specs.declared.mask.Constraint.{Constraint}
 use Rattle.cil_constraints.specs.Contexts.{Context, IsTrueOf}

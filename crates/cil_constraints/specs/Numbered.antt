@@ -6,8 +6,8 @@ use Rattle.cil_syntax.specs.declared.kind.Kind.{Kind}
 use Rattle.cil_syntax.specs.Scopes.{ScopedWord}
 use Rattle.cil_macros.specs.Item.{Item, OptSet}
 use Rattle.cil_syntax.specs.declared.kind.Kind.TheVariants as kinds
-use Rattle.cil_names.specs.Declarations.{Declared, Symbol}
-use Rattle.cil_known.specs.Known.{IsNumbered}
+use Rattle.cil_classes.specs.names.Declarations.{Declared, Symbol}
+use Rattle.cil_classes.specs.known.Known.{IsNumbered}
 use Rattle.cil_constraints.specs.declared.expr.Context.{Context as Numbers}
 use Rattle.cil_constraints.specs.declared.step.Part.{Part}
 use Rattle.cil_constraints.specs.Contexts.{Context, IsAmong, kind_of}

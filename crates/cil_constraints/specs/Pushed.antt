@@ -7,9 +7,9 @@ use Rattle.cil_syntax.specs.Depths.{Nests}
 use Rattle.cil_syntax.specs.Said.{said_of}
 use Rattle.cil_syntax.specs.Scopes.{ScopedWord}
 use Rattle.cil_macros.specs.Item.{Item}
-use Rattle.cil_names.specs.Unresolved.{term_with}
-use Rattle.cil_known.specs.declared.known.Known.{Known}
-use Rattle.cil_known.specs.Known.{AreStanding, BeginWith, IsKnown, enabled_in, wanted_with}
+use Rattle.cil_classes.specs.names.Unresolved.{term_with}
+use Rattle.cil_classes.specs.known.DeclaredKnown.{Known}
+use Rattle.cil_classes.specs.known.Known.{AreStanding, BeginWith, IsKnown, enabled_in, wanted_with}
 use Rattle.cil_constraints.specs.declared.push.Standing.{Standing}
 use Rattle.cil_constraints.specs.declared.step.Part.{Part}
 use Rattle.cil_constraints.specs.declared.step.Part.TheVariants as parts

@@ -7,9 +7,9 @@ use Rattle.cil_syntax.specs.Said.{said_of}
 use Rattle.cil_syntax.specs.Scopes.{ScopedWord}
 use Rattle.cil_syntax.specs.Terms.{Term, nil, cons}
 use Rattle.cil_macros.specs.Item.{Item, OptSet, is_enabled}
-use Rattle.cil_names.specs.Unresolved.{term_with}
-use Rattle.cil_known.specs.declared.known.Known.{Known}
-use Rattle.cil_known.specs.Known.{BeginWith, enabled_in, row_in}
+use Rattle.cil_classes.specs.names.Unresolved.{term_with}
+use Rattle.cil_classes.specs.known.DeclaredKnown.{Known}
+use Rattle.cil_classes.specs.known.Known.{BeginWith, enabled_in, row_in}
 use Rattle.cil_classes.specs.declared.held.GivenPermissions.{GivenPermissions}
 use Rattle.cil_classes.specs.declared.row.Class.{Class}
 use Rattle.cil_classes.specs.declared.row.ClassId.{ClassId}

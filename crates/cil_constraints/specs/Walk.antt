@@ -13,10 +13,10 @@ use Rattle.cil_syntax.specs.Forms.{is_class_list}
 use Rattle.cil_syntax.specs.Said.{all_said, said_of}
 use Rattle.cil_syntax.specs.Scopes.{ScopedWord}
 use Rattle.cil_macros.specs.Item.{Item}
-use Rattle.cil_names.specs.Resolves.{all_wanted_in}
-use Rattle.cil_names.specs.Unresolved.{term_with, terms_with}
-use Rattle.cil_known.specs.declared.known.Known.{Known}
-use Rattle.cil_known.specs.Known.{AreStanding, BeginWith, IsKnown, enabled_in, value_in, wanted_with}
+use Rattle.cil_classes.specs.names.Resolves.{all_wanted_in}
+use Rattle.cil_classes.specs.names.Unresolved.{term_with, terms_with}
+use Rattle.cil_classes.specs.known.DeclaredKnown.{Known}
+use Rattle.cil_classes.specs.known.Known.{AreStanding, BeginWith, IsKnown, enabled_in, value_in, wanted_with}
 use Rattle.cil_constraints.specs.declared.joins.Joins.{Joins}
 use Rattle.cil_constraints.specs.declared.push.Standing.{Standing}
 use Rattle.cil_constraints.specs.declared.step.Part.{Part}

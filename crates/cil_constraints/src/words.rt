@@ -1,12 +1,12 @@
 //! The sets of numbers for which words stand, by what they mean.
 
 ghost use Rattle.std.specs.Prelude.{◌≡◌, ℕ, Contains, IfOk, OnOk, Option};
-ghost use Rattle.cil_known.specs.Known.{set_meant};
+ghost use Rattle.cil_classes.specs.known.Known.{set_meant};
 ghost use Rattle.cil_constraints.specs.Walk.{AreListedAdded, AreWordsAdded, IsSetOf, IsUnited, IsWordAdded};
 
 use cil_base::NoMemory;
-use cil_known::{behind, behind_first, meaning_at};
-use cil_names::Meaning;
+use cil_classes::known::{behind, behind_first, meaning_at};
+use cil_classes::names::Meaning;
 use cil_sets::{Joining, Numbers};
 use cil_syntax::Term;
 use std::alloc::Global;

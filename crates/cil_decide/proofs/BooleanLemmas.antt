@@ -14,7 +14,7 @@ use Rattle.std.proofs.lemmas.Option.{same_Some, slice_get-map, slice_get_within}
 use Rattle.cil_base.specs.Lists.{text_cmp}
 use Rattle.cil_base.specs.Places.{none_some}
 use Rattle.cil_base.proofs.SearchLemmas.{searched}
-use Rattle.cil_conditions.specs.Bits.{IsOn}
+use Rattle.cil_tables.specs.conditions.Bits.{IsOn}
 use Rattle.cil_tables.specs.declared.tables.Boolean.{Boolean}
 use Rattle.cil_tables.specs.Table.{Table, IsOrderly, boolean_names}
 use Rattle.cil_decide.specs.Decides.{IsBooleanAt, IsOnAtFirst}

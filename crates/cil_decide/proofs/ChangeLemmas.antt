@@ -7,8 +7,8 @@ use Rattle.std.proofs.lemmas.Nat.Bits.{bit_at-pow_same, bit_at-pow_other}
 use Rattle.std.proofs.lemmas.Option.{same_Some, slice_get_within}
 use Rattle.cil_base.specs.Decided.{same_number}
 use Rattle.cil_base.specs.NameNumbers.{IsNumberOf}
-use Rattle.cil_classes.proofs.BitLemmas.{set_in_either, set_is_one}
-use Rattle.cil_classes.specs.declared.row.Class.{Class}
+use Rattle.cil_tables.proofs.classes_lemmas.BitLemmas.{set_in_either, set_is_one}
+use Rattle.cil_tables.specs.classes.Class.{Class}
 use Rattle.cil_tables.specs.constraints_crate.Context.{Context}
 use Rattle.cil_tables.specs.Meaning.{Bars}
 use Rattle.cil_tables.specs.Table.{Table}

@@ -1,6 +1,6 @@
 -- Which permissions of a class would change a role that may not change so, by the row of the class. No other crate needs these words.
 use Rattle.std.specs.Prelude.{◌≡◌, ◌↔◌, ℕ, List, Contains, slice_get, Some, IsBitSet}
-use Rattle.cil_classes.specs.declared.row.Class.{Class}
+use Rattle.cil_tables.specs.classes.Class.{Class}
 use Rattle.cil_tables.specs.declared.tables.Link.{Link}
 use Rattle.cil_tables.specs.Meaning.{IsTransition, process}
 

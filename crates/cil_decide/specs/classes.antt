@@ -1,3 +1,3 @@
 -- What crates above take of cil_classes.
-pub use Rattle.cil_classes.specs.contracts.row.ClassIdPartialEq
-pub use Rattle.cil_classes.specs.declared.row.ClassId
+pub use Rattle.cil_tables.specs.classes.ClassIdPartialEq
+pub use Rattle.cil_tables.specs.classes.ClassId

@@ -3,12 +3,12 @@
 ghost use Rattle.std.specs.Prelude.{◌≡◌, ◌↔◌, ◌≤◌, ℕ, IsBitSet, IsTrue, length};
 ghost use Rattle.std.specs.List.Sorted.{IsStrictlySortedBy};
 ghost use Rattle.cil_base.specs.Lists.{text_cmp};
-ghost use Rattle.cil_classes.specs.Row.{IsOrderlyClass};
+ghost use Rattle.cil_tables.specs.classes.Row.{IsOrderlyClass};
 ghost use Rattle.cil_decide.specs.Changes.{BarsRow, IsMaskOf, IsNotLet, IsTransitionBit};
 ghost use Rattle.cil_tables.specs.Meaning.{process};
 
 use cil_base::{Bytes, number_of};
-use cil_classes::Class;
+use cil_tables::classes::Class;
 use cil_tables::{Link, Links};
 
 /// The permissions of a class that would change the role of a process from one to another to which it may not change: `transition` and

@@ -3,9 +3,9 @@ use Rattle.std.specs.Prelude.{Option, Some, None, IfSome, IfNone}
 use Rattle.std.specs.Option.{option_map, unwrap_or}
 use Rattle.std.proofs.Common.{◌≡◌, ℕ, List, sym, ◌∙◌, ap, subst}
 use Rattle.cil_table_bytes.specs.tables.CompileAnswer.{IsCompiled}
-use Rattle.cil_optionals.specs.Lines.{AreOptionalsOf, AreReasonsOf}
-use Rattle.cil_optionals.specs.declared.lines.OptionalLine.{OptionalLine}
-use Rattle.cil_optionals.specs.declared.lines.WhyLine.{WhyLine}
+use Rattle.cil_table_bytes.specs.optionals.Lines.{AreOptionalsOf, AreReasonsOf}
+use Rattle.cil_table_bytes.specs.optionals.OptionalLine.{OptionalLine}
+use Rattle.cil_table_bytes.specs.optionals.WhyLine.{WhyLine}
 use Rattle.cil_host.specs.declared.host.Policy.{Policy}
 use Rattle.cil_host.specs.Machine.{Accepted, AreOptionalLines, AreWhyLines, IsKept, OfAccepted, OfLoaded, State, accepted_of}
 

@@ -4,7 +4,7 @@ use Rattle.std.specs.Result.{IsErrAnd}
 use Rattle.std.specs.Option.{option_map}
 use Rattle.std.proofs.Common.{◌≡◌, ℕ, List, refl, sym, ◌∙◌, ap, subst}
 use Rattle.cil_base.specs.Lists.{Lists, text_cmp}
-use Rattle.cil_conditions.specs.Bits.{IsOn, is_on}
+use Rattle.cil_table_bytes.specs.conditions.Bits.{IsOn, is_on}
 use Rattle.cil_faults.specs.declared.failure.Failure.{Failure}
 use Rattle.cil_faults.specs.declared.failure.Failure.TheVariants.{NoMemory}
 use Rattle.cil_table_bytes.specs.tables.CompileAnswer.{IsCompiled}

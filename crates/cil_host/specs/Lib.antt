@@ -8,3 +8,4 @@ pub mod Sets
 pub mod Settings
 pub mod decide
 pub mod tables
+pub mod optionals

@@ -2,21 +2,21 @@
 -- booleans of theirs that are on. This project's profile.
 use Rattle.std.specs.Prelude.{◌≡◌, ℕ, List, [], Option, Some, None, Result, Ok, Err, OnErr}
 use Rattle.std.specs.Global.{Vec}
-use Rattle.cil_macros.specs.Item.{Item, OptSet}
-use Rattle.cil_optionals.specs.declared.reason.Reason.{Reason}
-use Rattle.cil_optionals.specs.Certificate.{IsRight}
-use Rattle.cil_optionals.specs.First.{AreFirst}
-use Rattle.cil_optionals.specs.Policy.{ArePolicy}
+use Rattle.cil_table_bytes.specs.macros.Item.{Item, OptSet}
+use Rattle.cil_table_bytes.specs.optionals.Reason.{Reason}
+use Rattle.cil_table_bytes.specs.optionals.Certificate.{IsRight}
+use Rattle.cil_table_bytes.specs.optionals.First.{AreFirst}
+use Rattle.cil_table_bytes.specs.optionals.Policy.{ArePolicy}
 use Rattle.cil_avc.specs.decide.Decision.{Decision}
 use Rattle.cil_avc.specs.declared.key.Key.{Key}
 use Rattle.cil_avc.specs.Cache.{IsTrueFor}
-use Rattle.cil_optionals.specs.declared.lines.OptionalLine.{OptionalLine}
-use Rattle.cil_optionals.specs.declared.lines.WhyLine.{WhyLine}
+use Rattle.cil_table_bytes.specs.optionals.OptionalLine.{OptionalLine}
+use Rattle.cil_table_bytes.specs.optionals.WhyLine.{WhyLine}
 use Rattle.cil_table_bytes.specs.tables.Agrees.{Compiles}
 use Rattle.cil_table_bytes.specs.tables.CompileAnswer.{IsCompiled}
 use Rattle.cil_avc.specs.decide.Decides.{HasNoClass, HasNoContext, ModulesDecide}
-use Rattle.cil_optionals.specs.Lines.{AreOptionalsOf, AreReasonsOf}
-use Rattle.cil_conditions.specs.Bits.{is_on}
+use Rattle.cil_table_bytes.specs.optionals.Lines.{AreOptionalsOf, AreReasonsOf}
+use Rattle.cil_table_bytes.specs.conditions.Bits.{is_on}
 use Rattle.cil_table_bytes.specs.tables.Table.{Table, boolean_names}
 use Rattle.cil_host.specs.Settings.{on_in, on_names}
 use Rattle.cil_host.specs.declared.host.Policy.{Policy}

@@ -3,10 +3,10 @@ use Rattle.std.specs.Prelude.{◌≡◌, ◌↔◌, ℕ, ◌<◌, true, List, sl
 use Rattle.std.specs.declared.cmp.Ordering.TheVariants.{Less}
 use Rattle.cil_base.specs.Lists.{Lists, text_cmp}
 use Rattle.cil_syntax.specs.declared.kind.Kind.TheVariants as kinds
-use Rattle.cil_names.specs.Declarations.{Declared, Symbol, name_of}
-use Rattle.cil_macros.specs.Item.{Item, OptSet}
-use Rattle.cil_names.specs.Resolves.{has_permission}
-use Rattle.cil_optionals.specs.Policy.{ArePolicy}
+use Rattle.cil_table_bytes.specs.names.Declarations.{Declared, Symbol, name_of}
+use Rattle.cil_table_bytes.specs.macros.Item.{Item, OptSet}
+use Rattle.cil_table_bytes.specs.names.Resolves.{has_permission}
+use Rattle.cil_table_bytes.specs.optionals.Policy.{ArePolicy}
 use Rattle.cil_host.specs.Machine.{OfLoaded, State}
 
 -- the class of this name has this permission at this place of the byte order of its permissions

@@ -3,7 +3,7 @@ use Rattle.std.specs.Prelude.{◌≡◌, ℕ, List, Some, Result, Ok, Err, lengt
 use Rattle.sha2.specs.Sha256.{sha256}
 use Rattle.cil_base.specs.Lists.{Lists, text_cmp}
 use Rattle.cil_faults.specs.declared.failure.Failure.{Failure}
-use Rattle.cil_optionals.specs.declared.reason.Reason.{Reason}
+use Rattle.cil_table_bytes.specs.optionals.Reason.{Reason}
 use Rattle.cil_table_bytes.specs.tables.Agrees.{Compiles}
 use Rattle.cil_table_bytes.specs.tables.CompileAnswer.{IsCompiled}
 use Rattle.cil_table_bytes.specs.tables.CompileRefusal.{CompileFails}

@@ -6,9 +6,9 @@ use Rattle.std.specs.List.Sorted.{IsStrictlySortedBy}
 use Rattle.cil_base.specs.Lists.{text_cmp}
 use Rattle.cil_syntax.specs.declared.kind.Kind.TheVariants as kinds
 use Rattle.cil_syntax.specs.Spelling.{same_bytes}
-use Rattle.cil_macros.specs.Item.{Item, OptSet}
-use Rattle.cil_conditions.specs.Conditions.{Settings}
-use Rattle.cil_optionals.specs.Policy.{ArePolicy}
+use Rattle.cil_table_bytes.specs.macros.Item.{Item, OptSet}
+use Rattle.cil_table_bytes.specs.conditions.Conditions.{Settings}
+use Rattle.cil_table_bytes.specs.optionals.Policy.{ArePolicy}
 use Rattle.cil_table_bytes.specs.tables.Booleans.{is_default_on}
 use Rattle.cil_table_bytes.specs.tables.Named.{IsNameOf}
 

@@ -22,9 +22,9 @@ use cil_avc::decide::{
 use cil_base::{Bytes, NoMemory};
 use cil_faults::Failure;
 use cil_modset::{BundleError, Installed, ModuleSet};
-use cil_optionals::{OptionalLine, WhyLine};
 use cil_sexpr::ReadError;
 use cil_table_bytes::measure;
+use cil_table_bytes::optionals::{OptionalLine, WhyLine};
 use cil_table_bytes::tables::{Compiled, compile};
 use std::alloc::Global;
 use std::hash::BuildHasher;

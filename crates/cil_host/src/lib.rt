@@ -11,7 +11,7 @@ mod listing;
 
 pub use cil_avc as avc;
 pub use cil_avc::decide;
-pub use cil_table_bytes::tables;
+pub use cil_table_bytes::{optionals, tables};
 pub use fault::{HostError, QueryFault};
 pub use host::{Host, Loaded};
 pub use listing::ListLine;

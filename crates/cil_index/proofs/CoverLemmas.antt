@@ -10,7 +10,7 @@ use Rattle.cil_base.specs.Lists.{contains_cases, contains_none}
 use Rattle.cil_base.specs.MadeLists.{from_map}
 use Rattle.cil_base.specs.Places.{get_at, get_contains, get_so, is_there, none_some, not_there, some_same}
 use Rattle.cil_rules.proofs.classes_lemmas.BitLemmas.{none_set, set_in_either}
-use Rattle.cil_conditions.specs.declared.branch.Branch.{Branch}
+use Rattle.cil_rules.specs.conditions.Branch.{Branch}
 use Rattle.cil_rules.specs.Rule.{Rule}
 use Rattle.cil_rules.specs.Covers.{Covers, HasCover, Reaches}
 use Rattle.cil_index.specs.declared.asked.Aims.{Aims}

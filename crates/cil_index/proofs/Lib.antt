@@ -13,3 +13,5 @@ mod SetLemmas
 mod StartLemmas
 pub use Rattle.cil_rules.proofs.classes_lemmas
 pub use Rattle.cil_rules.proofs as rules_lemmas
+pub use Rattle.cil_rules.proofs.conditions_lemmas
+pub use Rattle.cil_rules.proofs.names_lemmas

@@ -3,7 +3,7 @@ use Rattle.std.specs.Prelude.{Some, map, slice_get}
 use Rattle.std.proofs.Common.{◌≡◌, ℕ, ◌<◌, List, length, get_or, sym, ◌∙◌, ap, arith}
 use Rattle.std.proofs.lemmas.List.{get_or-map, get_or_default, length-map}
 use Rattle.cil_base.proofs.AtPlace.{made_at}
-use Rattle.cil_conditions.specs.declared.branch.Branch.{Branch}
+use Rattle.cil_rules.specs.conditions.Branch.{Branch}
 use Rattle.cil_rules.specs.Kept.{branch_named}
 use Rattle.cil_rules.specs.Rule.{Rule}
 use Rattle.cil_index.specs.declared.listed.ListedRule.{ListedRule}

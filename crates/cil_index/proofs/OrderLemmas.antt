@@ -18,8 +18,8 @@ use Rattle.cil_base.specs.Lists.{Lists, contains_cases, contains_here, contains_
 use Rattle.cil_base.specs.MadeLists.{contains_map, from_map}
 use Rattle.cil_base.specs.Paths.{both_equal, equal_from, its_own, less_from, same_by}
 use Rattle.cil_base.specs.Places.{get_so, in_range, is_there, not_there}
-use Rattle.cil_conditions.specs.declared.branch.Branch.{Branch}
-use Rattle.cil_conditions.specs.Order.{branch_cmp, branch_total}
+use Rattle.cil_rules.specs.conditions.Branch.{Branch}
+use Rattle.cil_rules.specs.conditions.Order.{branch_cmp, branch_total}
 use Rattle.cil_rules.specs.Order.{in_branch_cmp, in_branch_total, rule_cmp, same_rules, some_branch, target_fields}
 use Rattle.cil_rules.specs.declared.rule.NamedRule.{NamedRule}
 use Rattle.cil_rules.specs.Rule.{Rule, Itself}

@@ -1,6 +1,6 @@
 -- What the rule at a place covers, and by which aims the rules that cover something are found.
 use Rattle.std.specs.Prelude.{◌≡◌, ◌<◌, ◌≤◌, ◌+◌, ◌-◌, ◌/◌, ◌⊎◌, ℕ, Bool, true, List, [], Contains, IsBitSet, Some, get_or, slice_get}
-use Rattle.cil_conditions.specs.Active.{is_active}
+use Rattle.cil_rules.specs.conditions.Active.{is_active}
 use Rattle.cil_rules.specs.Rule.{Rule}
 use Rattle.cil_rules.specs.Covers.{Covers, Reaches}
 use Rattle.cil_index.specs.declared.asked.Aims.{Aims}

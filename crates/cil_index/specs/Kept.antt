@@ -1,6 +1,6 @@
 -- How rules are kept: with the numbers of branches and of sets of types.
 use Rattle.std.specs.Prelude.{ℕ, List, Option, None, Some, slice_get}
-use Rattle.cil_conditions.specs.declared.branch.Branch.{Branch}
+use Rattle.cil_rules.specs.conditions.Branch.{Branch}
 use Rattle.cil_rules.specs.Kept.{branch_named}
 use Rattle.cil_rules.specs.Rule.{Rule, Target, Types, Itself}
 use Rattle.cil_index.specs.declared.record.Record.{Record}

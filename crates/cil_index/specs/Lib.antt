@@ -13,3 +13,5 @@ pub mod Sets
 pub mod classes
 pub mod conditions
 pub mod rules
+pub mod known
+pub mod names

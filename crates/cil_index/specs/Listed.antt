@@ -1,7 +1,7 @@
 -- Rules as they are handed up one by one: with their branch and their sets where these are kept. This project's profile.
 use denote.Ref.{Bor}
 use Rattle.std.specs.Prelude.{ℕ, List, [], ◌∷◌, Option, None, Some}
-use Rattle.cil_conditions.specs.declared.branch.Branch.{Branch}
+use Rattle.cil_rules.specs.conditions.Branch.{Branch}
 use Rattle.cil_rules.specs.Rule.{Rule, Target, Types, Itself}
 use Rattle.cil_index.specs.declared.listed.ListedRule.{ListedRule}
 use Rattle.cil_index.specs.declared.listed.ListedTarget.{ListedTarget}

@@ -1,6 +1,6 @@
 -- What a search for rules is given, and what it hands over.
 use Rattle.std.specs.Prelude.{ℕ, Contains, IfSome, IsBitSet, Option}
-use Rattle.cil_conditions.specs.Bits.{is_on}
+use Rattle.cil_rules.specs.conditions.Bits.{is_on}
 use Rattle.cil_rules.specs.Covers.{HasCover}
 use Rattle.cil_index.specs.declared.cover.Search.{Search}
 use Rattle.cil_index.specs.Entries.{IsLaidOut, in_class}

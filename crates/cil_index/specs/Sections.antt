@@ -1,6 +1,6 @@
 -- The rules of a policy, by kind.
 use Rattle.std.specs.Prelude.{List, map}
-use Rattle.cil_conditions.specs.declared.branch.Branch.{Branch}
+use Rattle.cil_rules.specs.conditions.Branch.{Branch}
 use Rattle.cil_rules.specs.Rule.{Rule}
 use Rattle.cil_index.specs.declared.indexed.Indexed.{Indexed}
 use Rattle.cil_index.specs.Entries.{IsIndex}

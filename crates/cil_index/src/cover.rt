@@ -5,7 +5,7 @@ ghost use Rattle.cil_rules.specs.Covers.{HasCover};
 ghost use Rattle.cil_index.specs.Entries.{AreBelow, IsIndex, RiseIn, alone_key};
 ghost use Rattle.cil_index.specs.Found.{IsAmongSeveral, IsTheAlone};
 ghost use Rattle.cil_index.specs.Memberships.{AreMemberships};
-ghost use Rattle.cil_conditions.specs.Bits.{is_on};
+ghost use Rattle.cil_rules.specs.conditions.Bits.{is_on};
 ghost use Rattle.cil_index.specs.Search.{CoversIn, HandOverIn, HandsAllIn, HandsIn, HasRun, IsKnownSource, IsSearch, IsSound};
 ghost use Rattle.cil_index.specs.Searched.{rules_in};
 ghost use Rattle.cil_index.specs.Sets.{set_of};
@@ -15,7 +15,7 @@ use crate::index::{Bounds, Index};
 use crate::key::type_key;
 use crate::matches::mask_known;
 use crate::search::near_start;
-use cil_conditions::Settings;
+use cil_rules::conditions::Settings;
 
 /// The permissions that the rules cover, by their index. It takes no memory: for the target, for each set that has the source, and for each large one, it
 /// costs a step for each aim of a part of this heading, or two searches where these are many, and a test of each rule that may be on both types.

@@ -3,7 +3,7 @@
 ghost use Rattle.std.specs.Prelude.{◌≡◌, ℕ, Contains, IfOk, List, length, map};
 ghost use Rattle.std.specs.List.Sorted.{IsSorted, IsStrictlySortedBy};
 ghost use Rattle.cil_base.specs.Lists.{Lists};
-ghost use Rattle.cil_conditions.specs.Order.{branch_cmp};
+ghost use Rattle.cil_rules.specs.conditions.Order.{branch_cmp};
 ghost use Rattle.cil_rules.specs.Kept.{rule_named};
 ghost use Rattle.cil_rules.specs.Order.{rule_cmp};
 ghost use Rattle.cil_sets.specs.Answers.{set_cmp};
@@ -17,8 +17,8 @@ use crate::key::Entry;
 use crate::record::{Record, records_of};
 use crate::sets::Sets;
 use cil_base::{NoMemory, short};
-use cil_conditions::Branch;
 use cil_rules::NamedRule;
+use cil_rules::conditions::Branch;
 use std::alloc::Global;
 
 /// Rules of one kind. Their records stand in the order of the index: the record of an aim has the place of the aim, and those under a heading are side by

@@ -24,8 +24,7 @@ mod section;
 mod sets;
 
 pub use asked::Asked;
-pub use cil_conditions as conditions;
 pub use cil_rules as rules;
-pub use cil_rules::classes;
+pub use cil_rules::{classes, conditions, known};
 pub use listed::{ListedRule, ListedRules, ListedTarget, TypeSet};
 pub use section::{NamedRules, Sections};

@@ -3,8 +3,8 @@
 ghost use Rattle.std.specs.Prelude.{◌≡◌, ◌<◌, ◌↔◌, ℕ, IfSome, IsBitSet, IsTrue, Contains, Some};
 ghost use Rattle.cil_rules.specs.Covers.{Reaches};
 ghost use Rattle.cil_index.specs.Memberships.{AreMemberships};
-ghost use Rattle.cil_conditions.specs.Active.{is_active};
-ghost use Rattle.cil_conditions.specs.Bits.{is_on};
+ghost use Rattle.cil_rules.specs.conditions.Active.{is_active};
+ghost use Rattle.cil_rules.specs.conditions.Bits.{is_on};
 ghost use Rattle.cil_rules.specs.Kept.{branch_named};
 ghost use Rattle.cil_index.specs.Kept.{rule_of, target_at};
 ghost use Rattle.cil_index.specs.Found.{CoversAt, Matches};
@@ -13,7 +13,7 @@ ghost use Rattle.cil_index.specs.Sets.{set_of};
 
 use crate::asked::{Asked, Searched};
 use crate::record::Record;
-use cil_conditions::{Branch, Settings};
+use cil_rules::conditions::{Branch, Settings};
 
 /// The permissions of the rule at a place, where it is on what is asked.
 pub fn mask_at(searched: &Searched, settings: &Settings, asked: &Asked, place: usize) -> u32

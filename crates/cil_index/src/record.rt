@@ -5,7 +5,7 @@ ghost use Rattle.std.specs.Cmp.{eq_by_cmp_equiv, partial_equiv_from_equiv, parti
 ghost use Rattle.std.specs.Ordering.{as_partial_cmp, eq_by_cmp};
 ghost use Rattle.std.specs.List.Sorted.{IsStrictlySortedBy};
 ghost use Rattle.cil_base.specs.Lists.{Lists};
-ghost use Rattle.cil_conditions.specs.Order.{branch_cmp};
+ghost use Rattle.cil_rules.specs.conditions.Order.{branch_cmp};
 ghost use Rattle.cil_rules.specs.Kept.{branch_named, rule_named, target_named};
 ghost use Rattle.cil_rules.specs.Order.{rule_cmp};
 ghost use Rattle.cil_sets.specs.Answers.{set_cmp};
@@ -14,7 +14,7 @@ ghost use Rattle.cil_index.specs.Order.{AreWithin, IsWithin, record_cmp, record_
 ghost use Rattle.cil_index.specs.Sets.{AreNumbered};
 
 use cil_base::NoMemory;
-use cil_conditions::Branch;
+use cil_rules::conditions::Branch;
 use cil_rules::{NamedRule, Reach};
 use std::alloc::Global;
 use std::cmp::Ordering;

@@ -9,3 +9,4 @@ pub mod attrs
 pub mod labels
 pub mod mls
 pub mod ranges
+pub mod levels_crate

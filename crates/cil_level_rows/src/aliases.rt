@@ -17,10 +17,10 @@ ghost use Rattle.cil_level_rows.specs.AliasEntries.{AreAliasesBelow, AreItems, I
 ghost use Rattle.cil_level_rows.specs.Rows.{IsAliasRow};
 
 use cil_base::NoMemory;
-use cil_blocks::Namespaces;
 use cil_known::spelled::spelled;
 use cil_known::{Known, Sections};
 use cil_macros::Instances;
+use cil_macros::blocks::Namespaces;
 use cil_mls::{Named, Orders};
 use cil_names::Entry;
 use cil_ranges::attrs::{Categories, Sensitivities, members, standing_of};

@@ -19,5 +19,5 @@ mod words;
 pub use cil_labels as labels;
 pub use cil_mls as mls;
 pub use cil_ranges as ranges;
-pub use cil_ranges::attrs;
+pub use cil_ranges::{attrs, levels_crate};
 pub use policy::labels_of;

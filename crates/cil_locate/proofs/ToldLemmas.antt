@@ -3,7 +3,7 @@ use Rattle.std.proofs.Common.{◌≡◌, ℕ, List, [], ◌++◌, Option, None, 
 use Rattle.std.specs.Prelude.{slice_get}
 use Rattle.std.specs.Option.{option_map_or}
 use Rattle.cil_faults.specs.declared.fault.Fault.{Fault}
-use Rattle.cil_optionals.specs.declared.lines.WhyLine.{WhyLine}
+use Rattle.cil_server.specs.optionals.WhyLine.{WhyLine}
 use Rattle.cil_locate.specs.Files.{SourceFile, file_at}
 use Rattle.cil_locate.specs.Lines.{fault_lines, note_text, place_in, place_text, policy_line}
 use Rattle.cil_locate.specs.Located.{lines_at, note_at, note_lines, told_lines}

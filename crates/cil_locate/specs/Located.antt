@@ -5,7 +5,7 @@ use Rattle.std.specs.Option.{option_map_or}
 use Rattle.cil_faults.specs.declared.code.FaultCode.{FaultCode}
 use Rattle.cil_faults.specs.declared.code.FaultCode.TheVariants.{CategoryOrder, ExpansionLimit, MlsTwice, SensitivityOrder, TooMany}
 use Rattle.cil_faults.specs.declared.fault.Fault.{Fault}
-use Rattle.cil_optionals.specs.declared.lines.WhyLine.{WhyLine}
+use Rattle.cil_server.specs.optionals.WhyLine.{WhyLine}
 use Rattle.cil_locate.specs.Files.{SourceFile, file_at}
 use Rattle.cil_locate.specs.Lines.{fault_lines, note_text, place_in, place_text, policy_line}
 use Rattle.cil_locate.specs.Order.{Key}

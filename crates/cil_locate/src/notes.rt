@@ -12,7 +12,7 @@ use crate::lines::{put_note, put_place};
 use crate::telling::{Last, file_of};
 use crate::told::{Told, in_order};
 use cil_base::NoMemory;
-use cil_optionals::WhyLine;
+use cil_server::optionals::WhyLine;
 use cil_server::{Output, Sink};
 use std::alloc::Global;
 

@@ -16,7 +16,7 @@ use Rattle.cil_faults.specs.declared.fault.Fault.{Fault}
 use Rattle.cil_faults.proofs.RefusalLemmas.{fails_alike, faults_alike}
 use Rattle.cil_syntax.specs.declared.kind.Keyword.{Keyword}
 use Rattle.cil_syntax.specs.declared.kind.Kind.{Kind}
-use Rattle.cil_macros.specs.Item.{Item, OptSet}
+use Rattle.cil_attrs.specs.macros.Item.{Item, OptSet}
 use Rattle.cil_attrs.specs.names.Declarations.{nowhere}
 use Rattle.cil_attrs.specs.known.Members.{space_of}
 use Rattle.cil_attrs.specs.SetFaults.{IsItemName, SetFault}

@@ -4,13 +4,13 @@ use Rattle.std.proofs.Common.{Result, Ok, Err, ◌≡◌, ◌↔◌, ◌⊎◌, 
 use Rattle.std.proofs.lemmas.List.{length-map}
 use Rattle.std.proofs.lemmas.Option.{none-some, same_Some}
 use Rattle.cil_base.specs.Places.{get_contains}
-use Rattle.cil_macros.specs.blocks.Namespaces.{space_at}
+use Rattle.cil_attrs.specs.macros.blocks.Namespaces.{space_at}
 use Rattle.cil_settle.specs.declared.edge.Edge.{Edge}
 use Rattle.cil_settle.specs.Cycles.{IsWithin, Leads}
 use Rattle.cil_syntax.specs.declared.kind.Keyword.{Keyword}
 use Rattle.cil_syntax.specs.declared.kind.Kind.{Kind}
 use Rattle.cil_syntax.specs.Scopes.{ScopedWord}
-use Rattle.cil_macros.specs.Item.{Item, OptSet}
+use Rattle.cil_attrs.specs.macros.Item.{Item, OptSet}
 use Rattle.cil_attrs.proofs.names_lemmas.DeclareDecided.{symbol_by}
 use Rattle.cil_attrs.proofs.known_lemmas.StandingLemmas as standings
 use Rattle.cil_attrs.specs.names.Entry.{Entry}

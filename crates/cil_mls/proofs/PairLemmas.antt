@@ -9,7 +9,7 @@ use Rattle.cil_settle.specs.declared.edge.Edge.{Edge}
 use Rattle.cil_settle.specs.Cycles.{Leads}
 use Rattle.cil_syntax.specs.declared.kind.Keyword.{Keyword}
 use Rattle.cil_syntax.specs.Scopes.{ScopedWord}
-use Rattle.cil_macros.specs.Item.{Item, is_enabled}
+use Rattle.cil_attrs.specs.macros.Item.{Item, is_enabled}
 use Rattle.cil_attrs.specs.known.DeclaredKnown.{Known}
 use Rattle.cil_attrs.specs.known.Known.{enabled_in, meant_in, row_in, set_meant}
 use Rattle.cil_attrs.specs.names.Resolves.{is_mapping}

@@ -16,8 +16,8 @@ use Rattle.cil_syntax.specs.declared.term.Term.TheVariants as variants
 use Rattle.cil_syntax.specs.Said.{all_said, said_of}
 use Rattle.cil_syntax.proofs.SaidLemmas.{form_said}
 use Rattle.cil_syntax.specs.Terms.{Leaf, Name, Form, Terms, nil, cons}
-use Rattle.cil_macros.specs.Item.{Item, OptSet, all_replaced, is_enabled}
-use Rattle.cil_macros.specs.Items.{may_say_lists, says_as_written}
+use Rattle.cil_attrs.specs.macros.Item.{Item, OptSet, all_replaced, is_enabled}
+use Rattle.cil_attrs.specs.macros.Items.{may_say_lists, says_as_written}
 use Rattle.cil_mls.specs.OrderFaults.{Switches, switch_word}
 use Rattle.cil_mls.specs.Switch.{is_bare, is_mls, is_switch, is_switch_term, is_switch_word, switches}
 use Rattle.cil_mls.proofs.PairLemmas.{taken_more}

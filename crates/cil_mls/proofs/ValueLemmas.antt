@@ -15,7 +15,7 @@ use Rattle.cil_syntax.specs.Expressions as expressions
 use Rattle.cil_syntax.specs.Said.{all_said, said_of, word_in}
 use Rattle.cil_syntax.specs.Terms.{Term, Leaf, Name, Form, Terms, nil, cons}
 use Rattle.cil_syntax.proofs.SaidLemmas.{form_said, leaf_said, name_said}
-use Rattle.cil_macros.specs.Item.{all_words_in, words_in}
+use Rattle.cil_attrs.specs.macros.Item.{all_words_in, words_in}
 use Rattle.cil_mls.specs.declared.expression.Held.{Held}
 use Rattle.cil_mls.specs.declared.expression.Held.TheVariants.{Nothing}
 use Rattle.cil_mls.specs.declared.expression.How.{How}

@@ -17,7 +17,7 @@ use Rattle.cil_syntax.specs.Said.{all_said, said_of}
 use Rattle.cil_syntax.proofs.SaidLemmas.{form_said, leaf_said, name_said}
 use Rattle.cil_syntax.specs.Scopes.{ScopedWord}
 use Rattle.cil_syntax.specs.Terms.{Leaf, Name, Form, Terms, nil, cons}
-use Rattle.cil_macros.specs.Item.{Item, all_replaced, replaced}
+use Rattle.cil_attrs.specs.macros.Item.{Item, all_replaced, replaced}
 use Rattle.cil_attrs.specs.known.DeclaredKnown.{Known}
 use Rattle.cil_attrs.specs.known.Known.{meant_in, row_in, value_in}
 use Rattle.cil_attrs.specs.names.Resolves.{Word as AWord, all_wanted_in, is_mapping, wanted_in}

@@ -6,7 +6,7 @@ use Rattle.cil_faults.specs.declared.fault.Fault.{Fault}
 use Rattle.cil_faults.specs.declared.spot.Spot.{Spot}
 use Rattle.cil_syntax.specs.declared.kind.Kind.TheVariants as kinds
 use Rattle.cil_syntax.specs.Scopes.{ScopedWord}
-use Rattle.cil_macros.specs.Item.{Item, OptSet, all_words_in}
+use Rattle.cil_attrs.specs.macros.Item.{Item, OptSet, all_words_in}
 use Rattle.cil_attrs.specs.names.Declarations.{Symbol}
 use Rattle.cil_attrs.specs.known.Spaces.{names}
 use Rattle.cil_attrs.specs.SetFaults.{DeclaresAt, symbol_under}

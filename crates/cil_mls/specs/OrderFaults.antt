@@ -13,7 +13,7 @@ use Rattle.cil_syntax.specs.declared.kind.Kind.TheVariants as kinds
 use Rattle.cil_syntax.specs.declared.term.Op.{Op}
 use Rattle.cil_syntax.specs.declared.term.Op.TheVariants as ops
 use Rattle.cil_syntax.specs.Terms.{Form, nil, cons}
-use Rattle.cil_macros.specs.Item.{Item, OptSet}
+use Rattle.cil_attrs.specs.macros.Item.{Item, OptSet}
 use Rattle.cil_attrs.specs.names.Declarations.{nowhere}
 use Rattle.cil_attrs.specs.known.Members.{space_of}
 use Rattle.cil_attrs.specs.known.Says.{Says}

@@ -13,7 +13,7 @@ use Rattle.cil_syntax.specs.declared.kind.Keyword.{Keyword}
 use Rattle.cil_syntax.specs.declared.kind.Keyword.TheVariants as keywords
 use Rattle.cil_syntax.specs.declared.kind.Kind.{Kind}
 use Rattle.cil_syntax.specs.declared.kind.Kind.TheVariants as kinds
-use Rattle.cil_macros.specs.Item.{Item, OptSet}
+use Rattle.cil_attrs.specs.macros.Item.{Item, OptSet}
 use Rattle.cil_attrs.specs.names.Declarations.{nowhere}
 use Rattle.cil_attrs.specs.known.Members.{space_of}
 use Rattle.cil_attrs.specs.known.Sections.{Sections}

@@ -7,7 +7,7 @@ use Rattle.cil_syntax.specs.declared.kind.Kind.{Kind}
 use Rattle.cil_syntax.specs.declared.term.Op.TheVariants as ops
 use Rattle.cil_syntax.specs.Scopes.{ScopedWord}
 use Rattle.cil_syntax.specs.Terms.{Term, Leaf, Form, Terms, nil, cons}
-use Rattle.cil_macros.specs.Item.{Item, OptSet, is_enabled}
+use Rattle.cil_attrs.specs.macros.Item.{Item, OptSet, is_enabled}
 use Rattle.cil_attrs.specs.names.Declarations.{Declared, Symbol}
 use Rattle.cil_attrs.specs.known.DeclaredKnown.{Known}
 use Rattle.cil_attrs.specs.known.Known.{AreStanding, IsKnown, IsNumbered}

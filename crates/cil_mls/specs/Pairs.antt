@@ -7,7 +7,7 @@ use Rattle.cil_syntax.specs.declared.term.Op.{Op}
 use Rattle.cil_syntax.specs.declared.term.Op.TheVariants as ops
 use Rattle.cil_syntax.specs.Scopes.{ScopedWord}
 use Rattle.cil_syntax.specs.Terms.{Term, Leaf, Name, Form, Terms, nil, cons}
-use Rattle.cil_macros.specs.Item.{Item, is_enabled}
+use Rattle.cil_attrs.specs.macros.Item.{Item, is_enabled}
 use Rattle.cil_attrs.specs.known.DeclaredKnown.{Known}
 use Rattle.cil_attrs.specs.known.Known.{enabled_in, meant_in, set_meant}
 use Rattle.cil_mls.specs.Ordering.{ListsWords}

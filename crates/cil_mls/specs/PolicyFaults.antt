@@ -8,7 +8,7 @@ use Rattle.cil_faults.specs.declared.code.FaultCode.TheVariants as causes
 use Rattle.cil_faults.specs.declared.failure.Failure.{Failure}
 use Rattle.cil_faults.specs.declared.fault.Fault.{Fault}
 use Rattle.cil_syntax.specs.declared.kind.Kind.{Kind}
-use Rattle.cil_macros.specs.Item.{Item, OptSet}
+use Rattle.cil_attrs.specs.macros.Item.{Item, OptSet}
 use Rattle.cil_attrs.specs.names.Declarations.{nowhere}
 use Rattle.cil_mls.specs.OrderFaults.{AreOver}
 

@@ -5,7 +5,7 @@ use Rattle.cil_faults.specs.declared.spot.Spot.{Spot}
 use Rattle.cil_syntax.specs.declared.kind.Kind.{Kind}
 use Rattle.cil_syntax.specs.declared.kind.Kind.TheVariants as kinds
 use Rattle.cil_syntax.specs.Scopes.{ScopedWord}
-use Rattle.cil_macros.specs.Item.{Item, all_words_in}
+use Rattle.cil_attrs.specs.macros.Item.{Item, all_words_in}
 use Rattle.cil_attrs.specs.names.Declarations.{Symbol}
 use Rattle.cil_attrs.specs.names.Entry.{Entry}
 use Rattle.cil_attrs.specs.known.DeclaredKnown.{Known}

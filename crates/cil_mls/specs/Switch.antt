@@ -5,7 +5,7 @@ use Rattle.cil_syntax.specs.declared.kind.Keyword.TheVariants as keywords
 use Rattle.cil_syntax.specs.declared.term.Op.{Op}
 use Rattle.cil_syntax.specs.declared.term.Op.TheVariants as ops
 use Rattle.cil_syntax.specs.Terms.{Term, Leaf, Name, Form, Terms, nil, cons}
-use Rattle.cil_macros.specs.Item.{Item, OptSet, is_enabled}
+use Rattle.cil_attrs.specs.macros.Item.{Item, OptSet, is_enabled}
 
 -- the statement is an mls statement
 abbrev pub is_mls : Keyword → Bool

@@ -4,7 +4,7 @@ ghost use Rattle.std.specs.Prelude.{◌≡◌, ◌++◌, ◌<◌, ◌≤◌, ℕ
 ghost use Rattle.cil_syntax.specs.declared.term.Word.{Word as AWord};
 ghost use Rattle.cil_syntax.specs.Expressions.{way_of};
 ghost use Rattle.cil_syntax.specs.Said.{all_said, said_of};
-ghost use Rattle.cil_macros.specs.Item.{all_words_in, words_in};
+ghost use Rattle.cil_attrs.specs.macros.Item.{all_words_in, words_in};
 ghost use Rattle.std.specs.Bool.{MatchBool};
 ghost use Rattle.cil_mls.specs.Bits.{in_words, is_between};
 ghost use Rattle.cil_mls.specs.Values.{AreJoined, AreNotTwo, AreTwoWords, IsFew, IsFormed, IsLeaf, IsNoLeaf, IsValue, end_of, held_between, in_span, is_held, join_of, meant_held, start_of, way_as};

@@ -5,7 +5,7 @@ ghost use Rattle.cil_faults.specs.Refusal.{Answers};
 ghost use Rattle.cil_syntax.specs.declared.kind.Keyword.TheVariants as keywords;
 ghost use Rattle.cil_syntax.specs.declared.kind.Kind.TheVariants as kinds;
 ghost use Rattle.cil_faults.specs.declared.code.FaultCode.TheVariants as causes;
-ghost use Rattle.cil_macros.specs.Items.{items_in, namespaces_in};
+ghost use Rattle.cil_attrs.specs.macros.Items.{items_in, namespaces_in};
 ghost use Rattle.cil_attrs.specs.names.Rows.{IsTableOf};
 ghost use Rattle.cil_attrs.specs.known.Known.{IsKnown, enabled_in, row_in};
 ghost use Rattle.cil_attrs.specs.known.Numbers.{AreApart, names_of};
@@ -21,8 +21,8 @@ use crate::policy_faults::{check_limit, ordered, policy_fault};
 use crate::switch::is_switched;
 use cil_attrs::Limit;
 use cil_attrs::known::{Known, Sections};
+use cil_attrs::macros::Instances;
 use cil_faults::{Both, Failure, FaultCode, together};
-use cil_macros::Instances;
 use std::alloc::Global;
 
 /// The orders of sensitivities and of categories, and whether levels are on. It costs what `sensitivity_order` and `category_order`

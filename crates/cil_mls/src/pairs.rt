@@ -4,16 +4,16 @@ ghost use Rattle.std.specs.Prelude.{◌≡◌, ◌↔◌, ◌<◌, ℕ, Contains
 ghost use Rattle.cil_settle.specs.Cycles.{Leads};
 ghost use Rattle.cil_syntax.specs.Said.{all_said, said_of};
 ghost use Rattle.cil_syntax.specs.Terms.{cons, nil};
-ghost use Rattle.cil_macros.specs.Items.{item_at, items_in, may_say_lists, says_as_written};
+ghost use Rattle.cil_attrs.specs.macros.Items.{item_at, items_in, may_say_lists, says_as_written};
 ghost use Rattle.cil_attrs.specs.known.Known.{row_in, set_meant};
 ghost use Rattle.cil_attrs.specs.names.Resolves.{is_mapping};
 ghost use Rattle.cil_attrs.specs.names.Rows.{IsTableOf};
 ghost use Rattle.cil_mls.specs.Pairs.{IsNextBefore, IsPairBy, IsPairIn, LeadMore, are_word_list, are_words, is_listed, is_word, is_word_list};
 
 use cil_attrs::known::Known;
+use cil_attrs::macros::Instances;
 use cil_attrs::names::{Meaning, same_keyword};
 use cil_base::NoMemory;
-use cil_macros::Instances;
 use cil_sets::Numbers;
 use cil_settle::Edge;
 use cil_syntax::{Keyword, Op, Term};

@@ -5,7 +5,7 @@ ghost use Rattle.cil_base.specs.Lists.{Lists, text_cmp};
 ghost use Rattle.cil_faults.specs.Fails.{AreFaults};
 ghost use Rattle.cil_faults.specs.Refusal.{Answers, Fails};
 ghost use Rattle.cil_faults.specs.Reported.{global_fault};
-ghost use Rattle.cil_macros.specs.Item.{Item, OptSet};
+ghost use Rattle.cil_attrs.specs.macros.Item.{Item, OptSet};
 ghost use Rattle.cil_syntax.specs.declared.kind.Kind as kinds;
 ghost use Rattle.cil_attrs.specs.names.Declarations.{nowhere};
 ghost use Rattle.cil_attrs.specs.SetFaults.{IsItemName};

@@ -4,14 +4,14 @@ ghost use Rattle.std.specs.Prelude.{◌≡◌, ◌↔◌, ◌<◌, ℕ, length, 
 ghost use Rattle.cil_faults.specs.declared.spot.Spot.{Spot};
 ghost use Rattle.cil_syntax.specs.Said.{all_said, said_of};
 ghost use Rattle.cil_syntax.specs.Terms.{Form};
-ghost use Rattle.cil_macros.specs.Items.{item_at, items_in};
+ghost use Rattle.cil_attrs.specs.macros.Items.{item_at, items_in};
 ghost use Rattle.cil_attrs.specs.known.Known.{enabled_in};
 ghost use Rattle.cil_mls.specs.OrderFaults.{Switches};
 ghost use Rattle.cil_mls.specs.Switch.{is_mls, is_switch, is_switch_term, is_switch_word, switches};
 
 use crate::pairs::only;
 use cil_attrs::known::Known;
-use cil_macros::Instances;
+use cil_attrs::macros::Instances;
 use cil_syntax::{Keyword, Op, Term};
 
 /// Whether an enabled `mls` statement turns levels on, or off. It costs a step for each statement.

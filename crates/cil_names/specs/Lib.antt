@@ -20,3 +20,4 @@ pub mod Unresolved
 pub mod Worded
 pub mod blocks
 pub mod macros
+pub mod syntax

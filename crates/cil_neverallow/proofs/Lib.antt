@@ -9,3 +9,4 @@ pub mod StatementLemmas
 pub mod TieLemmas
 pub mod ViolationLemmas
 pub use Rattle.cil_index.proofs.rules_lemmas
+pub use Rattle.cil_index.proofs.conditions_lemmas

@@ -14,11 +14,11 @@ use Rattle.cil_syntax.specs.declared.kind.Kind.TheVariants as kinds
 use Rattle.cil_syntax.specs.Scopes.{ScopedWord}
 use Rattle.cil_syntax.specs.Terms.{Term, Leaf, Name, Form}
 use Rattle.cil_macros.specs.Item.{Item, OptSet}
-use Rattle.cil_known.specs.declared.known.Known.{Known}
-use Rattle.cil_names.specs.Declarations.{Declared, Symbol, name_of}
-use Rattle.cil_known.specs.Known.{IsKnown, IsNumbered, enabled_in}
-use Rattle.cil_known.specs.Members.{StandsFor}
-use Rattle.cil_known.specs.Numbers.{AreApart}
+use Rattle.cil_index.specs.known.DeclaredKnown.{Known}
+use Rattle.cil_index.specs.names.Declarations.{Declared, Symbol, name_of}
+use Rattle.cil_index.specs.known.Known.{IsKnown, IsNumbered, enabled_in}
+use Rattle.cil_index.specs.known.Members.{StandsFor}
+use Rattle.cil_index.specs.known.Numbers.{AreApart}
 use Rattle.cil_index.specs.classes.ClassRows.{AreClasses}
 use Rattle.cil_index.specs.classes.Given.{HasPair}
 use Rattle.cil_index.specs.classes.Class.{Class}

@@ -15,7 +15,7 @@ use Rattle.cil_base.specs.Places.{get_so, in_range}
 use Rattle.cil_neverallow.specs.declared.overlap.Overlap.{Overlap}
 use Rattle.cil_neverallow.specs.NeverFaults.{Quadruple, names_of}
 use Rattle.cil_neverallow.specs.Overlaps.{overlap_cmp}
-use Rattle.cil_names.specs.Declarations.{name_of}
+use Rattle.cil_index.specs.names.Declarations.{name_of}
 
 -- names at two places of a rising list compare as the places
 pub names_cmp : (xs : List (List ℕ)) (i j : ℕ) (a b : List ℕ) → IsStrictlySortedBy text_cmp xs → slice_get xs i ≡ Some a → slice_get xs j ≡ Some b → text_cmp a b ≡ nat_cmp i j

@@ -6,21 +6,21 @@ use Rattle.std.proofs.lemmas.Bool.{and_parts}
 use Rattle.std.proofs.lemmas.Option.{none-some, same_Some, slice_get-map}
 use Rattle.cil_base.specs.Places.{get_at, get_contains}
 use Rattle.cil_base.proofs.NameSearches.{number_is}
-use Rattle.cil_blocks.specs.Namespaces.{space_at}
+use Rattle.cil_macros.specs.blocks.Namespaces.{space_at}
 use Rattle.cil_syntax.specs.declared.kind.Kind.{Kind}
 use Rattle.cil_syntax.specs.declared.kind.Kind.TheVariants as kinds
 use Rattle.cil_syntax.specs.Terms.{Term}
 use Rattle.cil_syntax.specs.Scopes.{ScopedWord}
 use Rattle.cil_macros.specs.Item.{Item, OptSet}
-use Rattle.cil_names.proofs.DeclareDecided.{symbol_by}
-use Rattle.cil_names.specs.declared.entry.Entry.{Entry}
-use Rattle.cil_known.specs.declared.known.Known.{Known}
-use Rattle.cil_names.specs.Declarations.{Declared, Symbol, name_of}
-use Rattle.cil_names.specs.Entries.{IsEntryFor}
-use Rattle.cil_known.specs.Known.{IsKnown, IsNumbered, enabled_in}
-use Rattle.cil_known.specs.Numbers.{AreApart, has_section, spelled_of}
-use Rattle.cil_names.specs.Symbols.{symbol_of}
-use Rattle.cil_names.specs.Resolves.{has_permission}
+use Rattle.cil_index.proofs.names_lemmas.DeclareDecided.{symbol_by}
+use Rattle.cil_index.specs.names.Entry.{Entry}
+use Rattle.cil_index.specs.known.DeclaredKnown.{Known}
+use Rattle.cil_index.specs.names.Declarations.{Declared, Symbol, name_of}
+use Rattle.cil_index.specs.names.Entries.{IsEntryFor}
+use Rattle.cil_index.specs.known.Known.{IsKnown, IsNumbered, enabled_in}
+use Rattle.cil_index.specs.known.Numbers.{AreApart, has_section, spelled_of}
+use Rattle.cil_index.specs.names.Symbols.{symbol_of}
+use Rattle.cil_index.specs.names.Resolves.{has_permission}
 use Rattle.cil_index.specs.classes.ClassRows.{AreClasses}
 use Rattle.cil_index.specs.classes.Given.{HasPair, of_class, of_map, of_name}
 use Rattle.cil_index.specs.classes.Values.{in_value_there}

@@ -13,10 +13,10 @@ use Rattle.cil_syntax.specs.declared.kind.Keyword.TheVariants as keywords
 use Rattle.cil_syntax.specs.declared.kind.Kind.{Kind}
 use Rattle.cil_syntax.specs.declared.kind.Kind.TheVariants as kinds
 use Rattle.cil_macros.specs.Item.{Item}
-use Rattle.cil_known.specs.declared.known.Known.{Known}
-use Rattle.cil_names.specs.Declarations.{name_of}
-use Rattle.cil_known.specs.Known.{IsKnown, enabled_in}
-use Rattle.cil_known.specs.Numbers.{AreApart}
+use Rattle.cil_index.specs.known.DeclaredKnown.{Known}
+use Rattle.cil_index.specs.names.Declarations.{name_of}
+use Rattle.cil_index.specs.known.Known.{IsKnown, enabled_in}
+use Rattle.cil_index.specs.known.Numbers.{AreApart}
 use Rattle.cil_index.specs.classes.ClassRows.{AreClasses}
 use Rattle.cil_index.specs.rules.CoveredBy.{IsCoveredBy}
 use Rattle.cil_index.specs.rules.Records.{ignored, CaseBy, IsRuleOf}

@@ -7,3 +7,4 @@ pub mod Stated
 pub mod Violations
 pub mod index_crate
 pub mod rules
+pub mod conditions

@@ -9,7 +9,7 @@ use Rattle.cil_faults.specs.declared.spot.Spot.{Spot}
 use Rattle.cil_faults.specs.Reported.{fault_at}
 use Rattle.cil_syntax.specs.declared.kind.Keyword.TheVariants as keywords
 use Rattle.cil_macros.specs.Item.{Item, OptSet}
-use Rattle.cil_names.specs.Declarations.{Symbol, name_of}
+use Rattle.cil_index.specs.names.Declarations.{Symbol, name_of}
 use Rattle.cil_index.specs.rules.CoveredBy.{IsCoveredBy}
 
 -- a source, a target, a class and a permission

@@ -1,8 +1,8 @@
 -- Quadruples by the numbers of their names. No other crate needs these words.
 use Rattle.std.specs.Prelude.{◌≡◌, ℕ, List, Some, slice_get}
 use Rattle.cil_index.specs.classes.Class.{Class}
-use Rattle.cil_names.specs.Declarations.{name_of}
-use Rattle.cil_known.specs.Known.{IsNumbered}
+use Rattle.cil_index.specs.names.Declarations.{name_of}
+use Rattle.cil_index.specs.known.Known.{IsNumbered}
 use Rattle.cil_neverallow.specs.NeverFaults.{Quadruple}
 use Rattle.cil_neverallow.specs.declared.overlap.Overlap.{Overlap}
 

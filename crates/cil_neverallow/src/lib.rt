@@ -16,5 +16,5 @@ mod statements;
 mod told;
 
 pub use cil_index as index_crate;
-pub use cil_index::rules;
+pub use cil_index::{conditions, rules};
 pub use forbidden::{View, violations};

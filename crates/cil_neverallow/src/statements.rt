@@ -4,9 +4,9 @@ ghost use Rattle.std.specs.Prelude.{◌≡◌, ◌<◌, ◌++◌, ◌∷◌, [],
 ghost use Rattle.std.specs.List.Sorted.{IsStrictlySortedBy};
 ghost use Rattle.cil_syntax.specs.declared.kind.Kind.TheVariants as variants;
 ghost use Rattle.cil_macros.specs.Items.{item_at, items_in, says_as_written};
-ghost use Rattle.cil_known.specs.Known.{enabled_in, row_in};
-ghost use Rattle.cil_names.specs.Resolves.{is_mapping};
-ghost use Rattle.cil_names.specs.Rows.{IsTableOf};
+ghost use Rattle.cil_index.specs.known.Known.{enabled_in, row_in};
+ghost use Rattle.cil_index.specs.names.Resolves.{is_mapping};
+ghost use Rattle.cil_index.specs.names.Rows.{IsTableOf};
 ghost use Rattle.cil_index.specs.classes.NodeOrder.{node_cmp};
 ghost use Rattle.cil_index.specs.classes.Row.{AreOrderlyRows};
 ghost use Rattle.cil_index.specs.rules.NamedRule.{NamedRule as ARule};
@@ -17,8 +17,8 @@ ghost use Rattle.cil_neverallow.specs.Stated.{AreHereOr, AreKept, IsAdded, IsRun
 use crate::permissions::name_some;
 use cil_base::NoMemory;
 use cil_index::classes::{Class, ClassId, GivenPermissions};
+use cil_index::known::Known;
 use cil_index::rules::{NamedRule, push_rules};
-use cil_known::Known;
 use cil_macros::Instances;
 use cil_sets::Numbers;
 use cil_syntax::Keyword;

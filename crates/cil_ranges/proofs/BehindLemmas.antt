@@ -23,8 +23,8 @@ use Rattle.cil_names.specs.Resolves.{Word as AWord, all_wanted_in, is_mapping}
 use Rattle.cil_names.proofs.ReadingLemmas.{plain_said}
 use Rattle.cil_known.specs.declared.known.Known.{Known}
 use Rattle.cil_known.specs.Known.{meant_in, row_in, value_in}
-use Rattle.cil_attrs.specs.Plain.{are_plain}
-use Rattle.cil_attrs.proofs.PlainLemmas.{all_plain_wanted}
+use Rattle.cil_mls.specs.attrs.Plain.{are_plain}
+use Rattle.cil_mls.proofs.attrs_lemmas.PlainLemmas.{all_plain_wanted}
 use Rattle.cil_ranges.specs.Levels.{Ground}
 use Rattle.cil_ranges.specs.Named.{SaysBehind}
 use Rattle.cil_ranges.specs.Reading.{AreRead, IsRead}

@@ -10,7 +10,7 @@ use Rattle.cil_syntax.specs.Kinds.{is_wanted}
 use Rattle.cil_syntax.specs.Scopes.{ScopedWord}
 use Rattle.cil_syntax.specs.Terms.{Name, cons}
 use Rattle.cil_syntax.proofs.KindLemmas.{one_kind, same_kind}
-use Rattle.cil_blocks.specs.declared.namespaces.Space.{Space}
+use Rattle.cil_macros.specs.blocks.Space.{Space}
 use Rattle.cil_macros.specs.Item.{Item}
 use Rattle.cil_names.specs.Declarations.{Symbol}
 use Rattle.cil_names.specs.Entries.{AreEntries, HasNoEntryIn, IsAnswer, IsEntryIn, IsNamed, is_entry_of}
@@ -23,13 +23,13 @@ use Rattle.cil_names.proofs.CandidateLemmas.{they_are}
 use Rattle.cil_known.specs.declared.known.Known.{Known}
 use Rattle.cil_known.specs.Known.{IsKnown, enabled_in, meant_in}
 use Rattle.cil_known.specs.Spaces.{is_same_symbol, names}
-use Rattle.cil_attrs.specs.Holding.{is_kind}
-use Rattle.cil_attrs.specs.SetFaults.{DeclaresAt, symbol_under}
-use Rattle.cil_attrs.specs.Targets.{IsEntryAt}
-use Rattle.cil_attrs.proofs.FaultLemmas.{its_entry}
-use Rattle.cil_attrs.proofs.GiverLemmas.{names_nothing}
-use Rattle.cil_attrs.proofs.HoldingLemmas.{both, kind_named, pair, same_symbol}
-use Rattle.cil_attrs.proofs.MembersLemmas.{same_self}
+use Rattle.cil_mls.specs.attrs.Holding.{is_kind}
+use Rattle.cil_mls.specs.attrs.SetFaults.{DeclaresAt, symbol_under}
+use Rattle.cil_mls.specs.attrs.Targets.{IsEntryAt}
+use Rattle.cil_mls.proofs.attrs_lemmas.FaultLemmas.{its_entry}
+use Rattle.cil_mls.proofs.attrs_lemmas.GiverLemmas.{names_nothing}
+use Rattle.cil_mls.proofs.attrs_lemmas.HoldingLemmas.{both, kind_named, pair, same_symbol}
+use Rattle.cil_mls.proofs.attrs_lemmas.MembersLemmas.{same_self}
 use Rattle.cil_ranges.specs.DeclaredEntries.{DeclaresJust, DeclaresNone}
 
 module _ (k : Known) (xs : List Item) (kind : Kind) (sign : Sign) (wanted : is_wanted sign kind ≡ true) where

@@ -19,7 +19,7 @@ use Rattle.cil_names.specs.Laws.{MeansWhatItNames}
 use Rattle.cil_known.specs.declared.known.Known.{Known}
 use Rattle.cil_known.specs.Known.{IsKnown, enabled_in, meant_in}
 use Rattle.cil_known.specs.Spaces.{names}
-use Rattle.cil_attrs.specs.SetFaults.{symbol_under}
+use Rattle.cil_mls.specs.attrs.SetFaults.{symbol_under}
 use Rattle.cil_levels.proofs.BegunLemmas.{before_or_at}
 use Rattle.cil_mls.specs.declared.level.Range.{Range}
 use Rattle.cil_ranges.specs.DeclaredEntries.{DeclaresEntry, DeclaresJust, DeclaresNone}

@@ -28,8 +28,8 @@ use Rattle.cil_names.proofs.DeclareDecided.{same_declaration}
 use Rattle.cil_known.specs.declared.known.Known.{Known}
 use Rattle.cil_known.specs.Known.{IsKnown, enabled_in, meant_in}
 use Rattle.cil_known.specs.Spaces.{names}
-use Rattle.cil_attrs.specs.SetFaults.{DeclaresAt, symbol_under}
-use Rattle.cil_attrs.specs.Targets.{IsEntryAt}
+use Rattle.cil_mls.specs.attrs.SetFaults.{DeclaresAt, symbol_under}
+use Rattle.cil_mls.specs.attrs.Targets.{IsEntryAt}
 use Rattle.cil_levels.specs.Values.{in_value}
 use Rattle.cil_mls.specs.declared.level.Level.{Level}
 use Rattle.cil_mls.specs.Dominance.{AreSame, has}

@@ -16,7 +16,7 @@ use Rattle.cil_names.specs.Resolves.{found_in}
 use Rattle.cil_known.specs.declared.known.Known.{Known}
 use Rattle.cil_known.specs.Known.{IsKnown, enabled_in}
 use Rattle.cil_known.specs.Spaces.{names}
-use Rattle.cil_attrs.specs.SetFaults.{symbol_under}
+use Rattle.cil_mls.specs.attrs.SetFaults.{symbol_under}
 use Rattle.cil_mls.specs.declared.level.Level.{Level}
 use Rattle.cil_mls.specs.declared.level.Range.{Range}
 use Rattle.cil_mls.specs.Dominance.{AreSame}

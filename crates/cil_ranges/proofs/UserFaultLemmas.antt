@@ -21,9 +21,9 @@ use Rattle.cil_names.specs.Laws.{MeansWhatItNames}
 use Rattle.cil_known.specs.declared.known.Known.{Known}
 use Rattle.cil_known.specs.Known.{IsKnown, enabled_in}
 use Rattle.cil_known.specs.Spaces.{names}
-use Rattle.cil_attrs.specs.SetFaults.{DeclaresAt, symbol_under}
-use Rattle.cil_attrs.specs.Targets.{IsEntryAt, IsToldIn}
-use Rattle.cil_attrs.proofs.FaultLemmas.{its_entry}
+use Rattle.cil_mls.specs.attrs.SetFaults.{DeclaresAt, symbol_under}
+use Rattle.cil_mls.specs.attrs.Targets.{IsEntryAt, IsToldIn}
+use Rattle.cil_mls.proofs.attrs_lemmas.FaultLemmas.{its_entry}
 use Rattle.cil_mls.specs.declared.level.Range.{Range}
 use Rattle.cil_mls.specs.OrderFaults.{Switches}
 use Rattle.cil_mls.proofs.PairLemmas.{taken_more}

@@ -25,7 +25,7 @@ use Rattle.cil_names.specs.declared.entry.Entry.{Entry}
 use Rattle.cil_known.specs.declared.known.Known.{Known}
 use Rattle.cil_known.specs.Known.{IsKnown, enabled_in, meant_in}
 use Rattle.cil_known.specs.Spaces.{names}
-use Rattle.cil_attrs.specs.Targets.{IsEntryAt}
+use Rattle.cil_mls.specs.attrs.Targets.{IsEntryAt}
 use Rattle.cil_mls.specs.declared.level.Level.{Level}
 use Rattle.cil_mls.specs.declared.level.Range.{Range}
 use Rattle.cil_mls.specs.Dominance.{AreSame, Dominates}

@@ -34,8 +34,8 @@ use Rattle.cil_macros.specs.Placed.{Placed}
 use Rattle.cil_names.specs.Resolves.{Word as AWord, all_wanted_in, wanted_in, words_of_class}
 use Rattle.cil_known.specs.declared.known.Known.{Known}
 use Rattle.cil_known.specs.Known.{enabled_in, value_in}
-use Rattle.cil_attrs.specs.Plain.{are_plain}
-use Rattle.cil_attrs.proofs.PlainLemmas.{all_plain_wanted}
+use Rattle.cil_mls.specs.attrs.Plain.{are_plain}
+use Rattle.cil_mls.proofs.attrs_lemmas.PlainLemmas.{all_plain_wanted}
 use Rattle.cil_ranges.specs.declared.own.Judged.TheVariants as judged
 use Rattle.cil_ranges.specs.declared.walk.Ahead.{Ahead}
 use Rattle.cil_ranges.specs.declared.walk.Walk.{Walk}

@@ -5,8 +5,8 @@ use Rattle.cil_syntax.specs.declared.kind.Kind.{Kind}
 use Rattle.cil_macros.specs.Item.{Item}
 use Rattle.cil_known.specs.declared.known.Known.{Known}
 use Rattle.cil_known.specs.Known.{enabled_in}
-use Rattle.cil_attrs.specs.SetFaults.{DeclaresAt, symbol_under}
-use Rattle.cil_attrs.specs.Targets.{IsEntryAt}
+use Rattle.cil_mls.specs.attrs.SetFaults.{DeclaresAt, symbol_under}
+use Rattle.cil_mls.specs.attrs.Targets.{IsEntryAt}
 
 module _ (k : Known) (xs : List Item) (kind : Kind) where
   -- the statement declares what has this entry

@@ -11,7 +11,7 @@ use Rattle.cil_macros.specs.Item.{Item}
 use Rattle.cil_names.specs.Declarations.{Symbol}
 use Rattle.cil_known.specs.declared.known.Known.{Known}
 use Rattle.cil_known.specs.Known.{enabled_in, meant_in}
-use Rattle.cil_attrs.specs.Targets.{IsEntryAt}
+use Rattle.cil_mls.specs.attrs.Targets.{IsEntryAt}
 use Rattle.cil_mls.specs.declared.level.Range.{Range}
 use Rattle.cil_ranges.specs.declared.scale.Ranged.{Ranged}
 use Rattle.cil_ranges.specs.declared.giving.Giving.{Giving}

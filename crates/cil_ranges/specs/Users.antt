@@ -12,7 +12,7 @@ use Rattle.cil_syntax.specs.Terms.{Term, Leaf, nil, cons}
 use Rattle.cil_macros.specs.Item.{Item, OptSet, is_enabled}
 use Rattle.cil_names.specs.Declarations.{Symbol}
 use Rattle.cil_known.specs.Spaces.{names}
-use Rattle.cil_attrs.specs.SetFaults.{DeclaresAt, symbol_under}
+use Rattle.cil_mls.specs.attrs.SetFaults.{DeclaresAt, symbol_under}
 use Rattle.cil_mls.specs.declared.level.Range.{Range}
 use Rattle.cil_mls.specs.Dominance.{AreSame}
 use Rattle.cil_mls.specs.OrderFaults.{Switches}

@@ -3,3 +3,4 @@ pub use Rattle.cil_levels.specs.Begun
 pub use Rattle.cil_levels.specs.Permitted
 pub use Rattle.cil_levels.specs.Places
 pub use Rattle.cil_levels.specs.Values
+pub use Rattle.cil_levels.specs.Held

@@ -29,8 +29,8 @@ mod users;
 mod walk;
 
 pub use check::push_level_faults;
-pub use cil_attrs as attrs;
 pub use cil_levels as levels_crate;
+pub use cil_mls::attrs;
 pub use level::{level_of, said_level};
 pub use levels::{Levels, levels_of};
 pub use named::{named_levels, named_ranges};

@@ -8,10 +8,10 @@ ghost use Rattle.cil_names.specs.Resolves.{is_mapping};
 ghost use Rattle.cil_known.specs.Known.{row_in};
 ghost use Rattle.cil_ranges.specs.Reading.{AreRead};
 
-use cil_attrs::are_plain;
 use cil_base::NoMemory;
 use cil_known::Known;
 use cil_macros::Instances;
+use cil_mls::attrs::are_plain;
 use cil_syntax::Term;
 use std::alloc::Global;
 

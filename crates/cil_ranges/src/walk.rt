@@ -18,10 +18,10 @@ ghost use Rattle.cil_ranges.specs.Walked.{AddsBackwards, AddsOrder, AddsOwn, Add
 use crate::own::{Judge, Judged, is_backwards, is_turned, is_unpermitted, judged_as};
 use crate::slices::behind_one;
 use crate::told::push_told;
-use cil_attrs::are_plain;
 use cil_base::NoMemory;
 use cil_known::{behind, behind_first};
 use cil_macros::{Instances, Part, PlacedWord};
+use cil_mls::attrs::are_plain;
 use cil_names::Meaning;
 use cil_syntax::{Fault, FaultCode, Op, Spot, Term};
 use std::alloc::Global;

@@ -8,3 +8,4 @@ pub mod Sections
 pub mod Spelled
 pub mod index_crate
 pub mod rules
+pub mod conditions

@@ -8,7 +8,7 @@ use Rattle.cil_syntax.specs.Terms.{Term, Leaf, Name, Form}
 use Rattle.cil_syntax.specs.Scopes.{ScopedWord}
 use Rattle.cil_macros.specs.Item.{Item, OptSet}
 use Rattle.cil_macros.specs.ListTerms.{AreAlike, IsAlike}
-use Rattle.cil_names.specs.Declarations.{name_of}
+use Rattle.cil_classes.specs.names.Declarations.{name_of}
 use Rattle.cil_classes.specs.declared.row.Class.{Class}
 use Rattle.cil_classes.specs.Given.{HasPair}
 use Rattle.cil_classes.proofs.AlikeLemmas.{IsLike, form_alike, leaf_alike, like_back, pair_alike, rule_alike}

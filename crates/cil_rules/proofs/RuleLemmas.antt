@@ -17,29 +17,29 @@ use Rattle.cil_syntax.specs.declared.term.Word.{Word}
 use Rattle.cil_syntax.specs.Terms.{Term, Leaf, Terms, nil, cons}
 use Rattle.cil_macros.specs.Item.{Item, OptSet, is_enabled}
 use Rattle.cil_syntax.specs.Scopes.{ScopedWord}
-use Rattle.cil_known.specs.declared.known.Known.{Known}
+use Rattle.cil_conditions.specs.known.DeclaredKnown.{Known}
 use Rattle.cil_classes.specs.declared.row.Class.{Class}
 use Rattle.cil_rules.specs.declared.rule.NamedRule.{NamedRule}
 use Rattle.cil_rules.specs.Kept.{branch_named, rule_named, set_named, target_named}
 use Rattle.cil_rules.specs.Rule.{Rule}
 use Rattle.cil_conditions.specs.declared.branch.Branch.{Branch}
 use Rattle.cil_rules.specs.Records.{Branching, Case, CaseBy, HasNumber, HasTarget, IsCase, IsPut, IsRuleOf, IsTaken}
-use Rattle.cil_known.specs.Known.{AreStanding, BeginWith, HasNumberFor, IsKnown, StandsForNothing, enabled_in, meant_by, meant_in, set_meant, value_in, wanted_with}
-use Rattle.cil_known.specs.Members.{StandsFor}
-use Rattle.cil_names.specs.Resolves.{Wanted, Word as AWord, all_wanted_in, wanted_in}
+use Rattle.cil_conditions.specs.known.Known.{AreStanding, BeginWith, HasNumberFor, IsKnown, StandsForNothing, enabled_in, meant_by, meant_in, set_meant, value_in, wanted_with}
+use Rattle.cil_conditions.specs.known.Members.{StandsFor}
+use Rattle.cil_classes.specs.names.Resolves.{Wanted, Word as AWord, all_wanted_in, wanted_in}
 use Rattle.cil_classes.specs.Given.{HasPair, of_class, of_map, of_name}
 use Rattle.cil_base.specs.Records.{AreRecordsOf}
 use Rattle.cil_classes.specs.declared.row.ClassId.{ClassId}
 use Rattle.cil_classes.specs.Perms.{AreMasksOf, IsMaskOfClass}
 use Rattle.cil_classes.proofs.PartLemmas.{one_class}
-use Rattle.cil_names.specs.Declarations.{Declared, Symbol}
-use Rattle.cil_known.specs.Numbers.{AreApart}
+use Rattle.cil_classes.specs.names.Declarations.{Declared, Symbol}
+use Rattle.cil_conditions.specs.known.Numbers.{AreApart}
 use Rattle.cil_rules.specs.Behind.{AreBehind, rule_with}
 use Rattle.cil_rules.proofs.BehindLemmas.{rising_map}
 use Rattle.cil_rules.specs.declared.rule.Reach.{Reach}
 use Rattle.cil_rules.specs.Order.{rule_cmp}
 use Rattle.cil_macros.proofs.FormLemmas.{across, all_across, no_rule, rule_across}
-use Rattle.cil_known.proofs.StandingLemmas.{nothing_stands}
+use Rattle.cil_conditions.proofs.known_lemmas.StandingLemmas.{nothing_stands}
 use Rattle.cil_rules.proofs.TargetLemmas.{IsReached, some_type, types_listed}
 
 -- ---- the meanings of what a rule asks for

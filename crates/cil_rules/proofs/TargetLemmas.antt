@@ -20,21 +20,21 @@ use Rattle.cil_syntax.proofs.SaidLemmas.{form_said, leaf_said, name_said}
 use Rattle.cil_macros.specs.Item.{Item, OptSet}
 use Rattle.cil_syntax.specs.Scopes.{ScopedWord}
 use Rattle.cil_syntax.specs.declared.term.Word.{Word}
-use Rattle.cil_names.specs.Unresolved.{term_with}
-use Rattle.cil_known.specs.declared.known.Known.{Known}
+use Rattle.cil_classes.specs.names.Unresolved.{term_with}
+use Rattle.cil_conditions.specs.known.DeclaredKnown.{Known}
 use Rattle.cil_rules.specs.declared.rule.Reach.{Reach}
 use Rattle.cil_rules.specs.declared.rule.Reach.TheVariants as reaches
 use Rattle.cil_rules.specs.Kept.{set_named, target_named}
 use Rattle.cil_rules.specs.Rule.{Target}
 use Rattle.cil_rules.specs.Rule as targets
 use Rattle.cil_rules.specs.Records.{HasNumber, HasTarget, IsTargetOf}
-use Rattle.cil_known.specs.Known.{AreStanding, BeginWith, HasNumberFor, IsKnown, enabled_in, meant_in, set_meant, value_in}
-use Rattle.cil_names.specs.Declarations.{Symbol}
-use Rattle.cil_known.specs.Members.{StandsFor}
+use Rattle.cil_conditions.specs.known.Known.{AreStanding, BeginWith, HasNumberFor, IsKnown, enabled_in, meant_in, set_meant, value_in}
+use Rattle.cil_classes.specs.names.Declarations.{Symbol}
+use Rattle.cil_conditions.specs.known.Members.{StandsFor}
 use Rattle.cil_macros.proofs.FormLemmas.{across, all_across, form_across, leaf_across, name_across}
-use Rattle.cil_names.specs.Resolves.{Word as AWord}
-use Rattle.cil_names.proofs.AskedLemmas.{leaf_asked}
-use Rattle.cil_known.proofs.StandingLemmas.{nothing_stands}
+use Rattle.cil_classes.specs.names.Resolves.{Word as AWord}
+use Rattle.cil_classes.proofs.names_lemmas.AskedLemmas.{leaf_asked}
+use Rattle.cil_conditions.proofs.known_lemmas.StandingLemmas.{nothing_stands}
 
 -- the numbers of the types for which a word stands are those of a record
 pub types_listed : (xs : List Item) (s : OptSet) (types : List (List ℕ)) (w : ScopedWord) (numbers : List ℕ) → Lists nat_cmp (HasNumberFor xs s kinds.Type_ types w) numbers

@@ -4,9 +4,9 @@ use Rattle.cil_conditions.specs.declared.branch.Branch.{Branch}
 use Rattle.cil_syntax.specs.declared.kind.Keyword.{Keyword}
 use Rattle.cil_syntax.specs.declared.kind.Kind.TheVariants as kinds
 use Rattle.cil_macros.specs.Item.{Item, is_enabled}
-use Rattle.cil_known.specs.declared.known.Known.{Known}
-use Rattle.cil_known.specs.Known.{enabled_in, row_in}
-use Rattle.cil_names.specs.Resolves.{is_mapping}
+use Rattle.cil_conditions.specs.known.DeclaredKnown.{Known}
+use Rattle.cil_conditions.specs.known.Known.{enabled_in, row_in}
+use Rattle.cil_classes.specs.names.Resolves.{is_mapping}
 use Rattle.cil_classes.specs.declared.held.GivenPermissions.{GivenPermissions}
 use Rattle.cil_classes.specs.declared.row.Class.{Class}
 use Rattle.cil_rules.specs.declared.rule.NamedRule.{NamedRule}

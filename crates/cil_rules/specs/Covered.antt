@@ -3,7 +3,7 @@
 use Rattle.std.specs.Prelude.{ℕ, List}
 use Rattle.cil_syntax.specs.declared.kind.Keyword.{Keyword}
 use Rattle.cil_macros.specs.Item.{Item, OptSet}
-use Rattle.cil_names.specs.Declarations.{Symbol}
+use Rattle.cil_classes.specs.names.Declarations.{Symbol}
 use Rattle.cil_conditions.specs.Conditions.{IsChosen, Settings}
 use Rattle.cil_rules.specs.CoveredBy.{IsCoveredBy}
 

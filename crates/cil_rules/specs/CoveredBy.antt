@@ -6,8 +6,8 @@ use Rattle.cil_syntax.specs.declared.term.Op.TheVariants as ops
 use Rattle.cil_syntax.specs.Terms.{Term, Leaf, Name, Form, nil, cons}
 use Rattle.cil_syntax.specs.Scopes.{ScopedWord}
 use Rattle.cil_macros.specs.Item.{Item, OptSet, is_enabled}
-use Rattle.cil_names.specs.Declarations.{Symbol}
-use Rattle.cil_known.specs.Members.{StandsFor}
+use Rattle.cil_classes.specs.names.Declarations.{Symbol}
+use Rattle.cil_conditions.specs.known.Members.{StandsFor}
 use Rattle.cil_classes.specs.Given.{HasPair}
 
 -- the target of a rule has the type: `self` where it is the source type

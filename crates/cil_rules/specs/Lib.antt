@@ -10,3 +10,6 @@ pub mod Order
 pub mod Records
 pub mod Rule
 pub mod classes
+pub mod conditions
+pub mod known
+pub mod names

@@ -12,12 +12,12 @@ use Rattle.cil_classes.specs.blocks.Contents.{Branch as Said}
 use Rattle.cil_conditions.specs.Conditions.{IsSaid}
 use Rattle.cil_conditions.specs.Spelled.{IsBranchOf}
 use Rattle.cil_conditions.specs.declared.branch.Branch.{Branch}
-use Rattle.cil_names.specs.Declarations.{Symbol, name_of}
+use Rattle.cil_classes.specs.names.Declarations.{Symbol, name_of}
 use Rattle.cil_macros.specs.Item.{Item, OptSet, is_enabled}
 use Rattle.cil_syntax.specs.Scopes.{ScopedWord}
-use Rattle.cil_known.specs.Members.{StandsFor}
+use Rattle.cil_conditions.specs.known.Members.{StandsFor}
 use Rattle.cil_classes.specs.Given.{HasPair}
-use Rattle.cil_known.specs.Known.{IsNumbered}
+use Rattle.cil_conditions.specs.known.Known.{IsNumbered}
 
 -- what one record is about: the branch and the words of one statement, and one class
 pub record Case : Type 0 where

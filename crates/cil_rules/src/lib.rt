@@ -14,6 +14,8 @@ mod sides;
 mod statement;
 
 pub use cil_classes as classes;
+pub use cil_conditions as conditions;
+pub use cil_conditions::known;
 pub use cover::covers;
 pub use gather::rules;
 pub use rule::{NamedRule, Reach, Rules};

@@ -8,17 +8,17 @@ ghost use Rattle.cil_syntax.specs.declared.term.Word.{Word as AWord};
 ghost use Rattle.cil_syntax.specs.Said.{said_of};
 ghost use Rattle.cil_syntax.specs.Scopes.{ScopedWord};
 ghost use Rattle.cil_macros.specs.Item.{Item};
-ghost use Rattle.cil_known.specs.declared.known.Known.{Known as Lookups};
-ghost use Rattle.cil_known.specs.Known.{AreStanding, BeginWith, IsKnown, enabled_in, set_meant};
-ghost use Rattle.cil_names.specs.Unresolved.{term_with};
+ghost use Rattle.cil_conditions.specs.known.DeclaredKnown.{Known as Lookups};
+ghost use Rattle.cil_conditions.specs.known.Known.{AreStanding, BeginWith, IsKnown, enabled_in, set_meant};
+ghost use Rattle.cil_classes.specs.names.Unresolved.{term_with};
 ghost use Rattle.cil_rules.specs.declared.rule.Reach.TheVariants as reaches;
 ghost use Rattle.cil_rules.specs.Kept.{set_named, target_named};
 ghost use Rattle.cil_rules.specs.Records.{HasTarget, IsTargetOf};
 
 use crate::rule::Reach;
 use cil_base::{NoMemory, short};
-use cil_known::meaning_at;
-use cil_names::Meaning;
+use cil_classes::names::Meaning;
+use cil_conditions::known::meaning_at;
 use cil_sets::Numbers;
 use cil_syntax::{Op, Term};
 

@@ -9,3 +9,4 @@ pub mod SpelledLemmas
 pub mod StreamLemmas
 pub mod TurnLemmas
 pub use Rattle.cil_host.proofs.avc_lemmas
+pub use Rattle.cil_host.proofs.tables_lemmas

@@ -12,8 +12,8 @@ use Rattle.cil_host.specs.declared.listing.ListLine.{ListLine}
 use Rattle.cil_host.specs.declared.host.Loaded.{Loaded}
 use Rattle.cil_host.specs.Listed.{line_of}
 use Rattle.std.specs.Global.{Vec}
-use Rattle.cil_optionals.specs.declared.lines.OptionalLine.{OptionalLine}
-use Rattle.cil_optionals.specs.declared.lines.WhyLine.{WhyLine}
+use Rattle.cil_host.specs.optionals.OptionalLine.{OptionalLine}
+use Rattle.cil_host.specs.optionals.WhyLine.{WhyLine}
 use Rattle.cil_host.specs.declared.fault.HostError.{HostError}
 use Rattle.cil_host.specs.declared.fault.HostError.TheVariants as errors
 use Rattle.cil_host.specs.Checks.{Checks as ChecksHost}

@@ -12,3 +12,4 @@ pub mod Taken
 pub mod Turns
 pub mod Views
 pub mod tables
+pub mod optionals

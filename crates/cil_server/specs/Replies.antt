@@ -17,8 +17,8 @@ use Rattle.cil_faults.specs.declared.failure.Failure.{Failure}
 use Rattle.cil_faults.specs.declared.failure.Failure.TheVariants as failures
 use Rattle.cil_faults.specs.declared.fault.Fault.{Fault}
 use Rattle.cil_faults.specs.Printed.{printed, printed_space}
-use Rattle.cil_optionals.specs.declared.lines.OptionalLine.{OptionalLine}
-use Rattle.cil_optionals.specs.declared.lines.WhyLine.{WhyLine}
+use Rattle.cil_host.specs.optionals.OptionalLine.{OptionalLine}
+use Rattle.cil_host.specs.optionals.WhyLine.{WhyLine}
 use Rattle.cil_host.specs.declared.fault.HostError.{HostError}
 use Rattle.cil_host.specs.declared.fault.HostError.TheVariants as errors
 use Rattle.cil_host.specs.declared.fault.QueryFault.{QueryFault}

@@ -11,8 +11,8 @@ use Rattle.cil_host.specs.decide.Decision.{Decision}
 use Rattle.cil_host.specs.declared.fault.QueryFault.{QueryFault}
 use Rattle.cil_host.specs.declared.host.Loaded.{Loaded}
 use Rattle.cil_host.specs.Listed.{line_of}
-use Rattle.cil_optionals.specs.declared.lines.OptionalLine.{OptionalLine}
-use Rattle.cil_optionals.specs.declared.lines.WhyLine.{WhyLine}
+use Rattle.cil_host.specs.optionals.OptionalLine.{OptionalLine}
+use Rattle.cil_host.specs.optionals.WhyLine.{WhyLine}
 use Rattle.cil_host.specs.Machine.{AreOptionalLines, AreWhyLines, OfAccepted, OfLoaded, Queries, State}
 use Rattle.cil_host.specs.Checks.{Checks as ChecksHost}
 use Rattle.cil_host.specs.Permissions.{IsPermissionOf}

@@ -22,7 +22,7 @@ mod streams;
 mod turn;
 
 pub use cil_host as host;
-pub use cil_host::{avc, decide, tables};
+pub use cil_host::{avc, decide, optionals, tables};
 pub use devices::{Counted, Sink, Source};
 pub use loading::{LoadEnd, load};
 pub use output::{Output, new_chunk};

@@ -11,8 +11,8 @@ use Rattle.std.proofs.lemmas.Bool.{and_parts, leb-true}
 use Rattle.std.proofs.lemmas.Cmp.{nat_list_cmp_total, on_total}
 use Rattle.std.proofs.lemmas.List.{append-nil}
 use Rattle.cil_base.specs.Lists.{all_at, text_cmp}
-use Rattle.cil_classes.specs.declared.row.Class.{Class}
-use Rattle.cil_classes.specs.Row.{IsOrderlyClass, class_cmp}
+use Rattle.cil_tables.specs.classes.Class.{Class}
+use Rattle.cil_tables.specs.classes.Row.{IsOrderlyClass, class_cmp}
 use Rattle.cil_label_bytes.specs.mls.Categories.{Categories}
 use Rattle.cil_label_bytes.specs.mls.Range.{Range}
 use Rattle.cil_tables.specs.declared.tables.Alias.{Alias}

@@ -1,6 +1,6 @@
 -- The layout of tables: a header and 17 sections. Its bytes are what hosts compare, keep and exchange. This project's profile.
 use Rattle.std.specs.Prelude.{◌≡◌, ℕ, Bool, List, [], ◌∷◌, length, Result, Ok, Err, ◌==◌, if◌then◌else◌}
-use Rattle.cil_classes.specs.declared.row.Class.{Class}
+use Rattle.cil_tables.specs.classes.Class.{Class}
 use Rattle.cil_constraint_bytes.specs.constraints_crate.Constraint.{Constraint}
 use Rattle.cil_rule_bytes.specs.index_crate.Sections.{RuleSections}
 use Rattle.cil_tables.specs.declared.tables.Alias.{Alias}

@@ -6,3 +6,7 @@ pub mod Parts
 pub mod Told
 pub mod classes
 pub mod tables
+pub mod conditions
+pub mod macros
+pub mod names
+pub mod optionals

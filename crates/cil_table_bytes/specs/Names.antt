@@ -3,7 +3,7 @@ use Rattle.std.specs.Prelude.{ℕ, ◌^◌, Bool, true, false, ◌&&◌, ◌==�
 use Rattle.std.specs.Int.{w8}
 use Rattle.std.specs.List.{list_any}
 use Rattle.cil_syntax.specs.Spelling.{same_bytes}
-use Rattle.cil_classes.specs.declared.row.Class.{Class}
+use Rattle.cil_tables.specs.classes.Class.{Class}
 use Rattle.cil_tables.specs.declared.tables.Alias.{Alias}
 use Rattle.cil_tables.specs.declared.tables.Boolean.{Boolean}
 use Rattle.cil_format.specs.declared.fault.TableFault.TheVariants.{NotCanonical, OutOfRange}

@@ -8,12 +8,12 @@ ghost use Rattle.cil_label_bytes.specs.Names.{permission};
 ghost use Rattle.cil_table_bytes.specs.Names as layout;
 
 use cil_base::{Bytes, Names};
-use cil_classes::Class;
 use cil_format::{
     Section, TableError, TableFault, byte_below, is_below, section_at, text_in, u8_at,
 };
 use cil_label_bytes::{owned_name_at, permission_at};
 use cil_tables::Boolean;
+use cil_tables::classes::Class;
 use std::alloc::Global;
 
 /// How many permissions a class may have.

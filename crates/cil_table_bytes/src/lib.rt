@@ -21,6 +21,7 @@ mod writing;
 
 pub use cil_format::{TableError, TableFault};
 pub use cil_tables as tables;
+pub use cil_tables::optionals;
 pub use measuring::{Measured, measure};
 pub use reading::decode;
 pub use writing::encode;

@@ -7,8 +7,8 @@ ghost use Rattle.cil_label_bytes.specs.Names.{name, permission};
 ghost use Rattle.cil_table_bytes.specs.Names as names;
 
 use cil_base::{Bytes, NoMemory};
-use cil_classes::Class;
 use cil_format::{put_byte, put_count, put_small, put_text};
+use cil_tables::classes::Class;
 use cil_tables::{Alias, Boolean};
 
 /// A record that is put behind others.

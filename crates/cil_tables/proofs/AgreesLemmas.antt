@@ -19,9 +19,9 @@ use Rattle.cil_level_rows.specs.labels.Labels.{BeginsWith}
 use Rattle.cil_level_rows.specs.Rows.{IsClearedBy, IsLabelBy}
 use Rattle.cil_level_rows.proofs.AlikeLaws.{clears_alike, reads_alike}
 use Rattle.cil_tables.specs.Contexts.{IsValid}
-use Rattle.cil_conditions.proofs.ConditionLemmas.{branches_agree, chosen_is_said}
-use Rattle.cil_conditions.specs.Conditions.{IsChosen, Settings}
-use Rattle.cil_conditions.specs.Spelled.{AreSameSettings}
+use Rattle.cil_neverallow.proofs.conditions_lemmas.ConditionLemmas.{branches_agree, chosen_is_said}
+use Rattle.cil_neverallow.specs.conditions.Conditions.{IsChosen, Settings}
+use Rattle.cil_neverallow.specs.conditions.Spelled.{AreSameSettings}
 use Rattle.cil_neverallow.specs.rules.Covered.{IsCovered}
 use Rattle.cil_neverallow.specs.rules.CoveredBy.{IsTarget}
 use Rattle.cil_neverallow.specs.rules.Records.{Case, HasNumber, HasTarget, IsTargetOf}

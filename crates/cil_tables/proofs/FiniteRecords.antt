@@ -11,9 +11,9 @@ use Rattle.cil_syntax.specs.declared.term.Op.{Op}
 use Rattle.cil_syntax.specs.Terms.{Term, Leaf, Name, Form, Terms, nil, cons}
 use Rattle.cil_tables.specs.declared.tables.Link.{Link}
 use Rattle.cil_blocks.specs.Contents.{Branch}
-use Rattle.cil_conditions.specs.declared.token.Token.{Token}
-use Rattle.cil_conditions.specs.declared.token.Token.TheVariants as tokens
-use Rattle.cil_conditions.specs.Conditions.{FormNamesBooleans, IsSaid, NamesBooleans, op_of, turns}
+use Rattle.cil_neverallow.specs.conditions.Token.{Token}
+use Rattle.cil_neverallow.specs.conditions.Token.TheVariants as tokens
+use Rattle.cil_neverallow.specs.conditions.Conditions.{FormNamesBooleans, IsSaid, NamesBooleans, op_of, turns}
 use Rattle.cil_neverallow.specs.rules.Records.{Case, HasTarget, IsCase, spelled}
 use Rattle.cil_tables.specs.Links.{IsLink}
 use Rattle.cil_known.specs.Known.{IsNumbered}

@@ -28,3 +28,5 @@ pub mod WideClasses
 pub use Rattle.cil_constraints.proofs as constraints_crate_lemmas
 pub use Rattle.cil_level_rows.proofs.mls_lemmas
 pub use Rattle.cil_neverallow.proofs as neverallow_lemmas
+pub use Rattle.cil_blocks.proofs as blocks_lemmas
+pub use Rattle.cil_classes.proofs as classes_lemmas

@@ -36,8 +36,8 @@ use Rattle.cil_names.specs.Resolves.{has_permission}
 use Rattle.cil_tables.specs.Aliases.{IsAlias}
 use Rattle.cil_tables.specs.Booleans.{is_default_on}
 use Rattle.cil_tables.specs.declared.tables.Boolean.{Boolean}
-use Rattle.cil_conditions.proofs.ConditionLemmas.{has_one_spelling}
-use Rattle.cil_conditions.specs.Spelled.{HasOneNumber}
+use Rattle.cil_neverallow.proofs.conditions_lemmas.ConditionLemmas.{has_one_spelling}
+use Rattle.cil_neverallow.specs.conditions.Spelled.{HasOneNumber}
 use Rattle.cil_tables.specs.Table.{Table, alias_cmp, alias_total, boolean_names, link_cmp, link_total, names_in}
 use Rattle.cil_classes.specs.Row.{class_cmp}
 use Rattle.cil_neverallow.specs.rules.Order.{rule_cmp, rule_total, same_rules}

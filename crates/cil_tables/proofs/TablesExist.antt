@@ -23,10 +23,10 @@ use Rattle.cil_syntax.specs.Terms.{Term, Leaf, Name, Form}
 use Rattle.cil_classes.specs.declared.row.Class.{Class}
 use Rattle.cil_neverallow.specs.rules.Rule.{Rule, Target, Types, Itself}
 use Rattle.cil_blocks.specs.Contents.{Branch as Said}
-use Rattle.cil_conditions.specs.declared.branch.Branch.{Branch}
-use Rattle.cil_conditions.specs.Conditions.{IsSaid}
-use Rattle.cil_conditions.proofs.ConditionLemmas.{said_is_spelled}
-use Rattle.cil_conditions.specs.Spelled.{AreAllNumbered, IsBranchOf}
+use Rattle.cil_neverallow.specs.conditions.Branch.{Branch}
+use Rattle.cil_neverallow.specs.conditions.Conditions.{IsSaid}
+use Rattle.cil_neverallow.proofs.conditions_lemmas.ConditionLemmas.{said_is_spelled}
+use Rattle.cil_neverallow.specs.conditions.Spelled.{AreAllNumbered, IsBranchOf}
 use Rattle.cil_neverallow.specs.rules.Records.{Case, HasBit, HasNumber, HasTarget, IsCase, IsRuleOf, IsTargetOf, spelled}
 use Rattle.cil_tables.specs.Links.{IsLink}
 use Rattle.cil_tables.specs.Booleans.{AreBooleans, is_default_on}

@@ -22,8 +22,8 @@ use Rattle.cil_neverallow.specs.rules.Covers.{HasCover}
 use Rattle.cil_neverallow.specs.rules.Rule.{Rule}
 use Rattle.cil_tables.specs.Meaning.{Bars, IsContext}
 use Rattle.cil_tables.specs.RoleChanges.{IsBarred}
-use Rattle.cil_conditions.specs.Conditions.{Settings}
-use Rattle.cil_conditions.specs.Spelled.{AreSameSettings}
+use Rattle.cil_neverallow.specs.conditions.Conditions.{Settings}
+use Rattle.cil_neverallow.specs.conditions.Spelled.{AreSameSettings}
 use Rattle.cil_tables.specs.Table.{Table, boolean_names}
 
 -- the numbers of a context are those of three declared symbols, and its levels are the same

@@ -26,3 +26,8 @@ pub mod labels
 pub mod mls
 pub mod optionals
 pub mod rules
+pub mod classes
+pub mod conditions
+pub mod levels_crate
+pub mod macros
+pub mod names

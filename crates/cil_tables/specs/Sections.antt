@@ -8,7 +8,7 @@ use Rattle.cil_macros.specs.Item.{Item, OptSet}
 use Rattle.cil_classes.specs.declared.row.Class.{Class}
 use Rattle.cil_base.specs.Records.{AreRecordsOf}
 use Rattle.cil_syntax.specs.declared.kind.Keyword.{Keyword}
-use Rattle.cil_conditions.specs.declared.branch.Branch.{Branch}
+use Rattle.cil_neverallow.specs.conditions.Branch.{Branch}
 use Rattle.cil_neverallow.specs.rules.NamedRule.{NamedRule}
 use Rattle.cil_neverallow.specs.rules.Kept.{rule_named}
 use Rattle.cil_neverallow.specs.rules.Records.{CaseBy, IsRuleOf, spelled}

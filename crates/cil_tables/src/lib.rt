@@ -20,10 +20,14 @@ mod sections;
 mod standings;
 pub mod tables;
 
+pub use cil_classes as classes;
 pub use cil_constraints as constraints_crate;
 pub use cil_constraints::Context;
-pub use cil_level_rows::{mls, ranges};
-pub use cil_neverallow::{index_crate, rules};
+pub use cil_declare as declare;
+pub use cil_level_rows::{levels_crate, mls, ranges};
+pub use cil_neverallow::{conditions, index_crate, rules};
+pub use cil_optionals as optionals;
+pub use cil_optionals::words;
 pub use compiler::{Compiled, compile};
 pub use holders::Links;
 pub use tables::{Alias, Boolean, Link, TableParts, Tables};

@@ -10,8 +10,8 @@ use cil_server::decide::{
     permission_named,
 };
 use cil_server::host::{Host, QueryFault};
+use cil_server::tables::{Tables, compile};
 use cil_syntax::Bytes;
-use cil_tables::{Tables, compile};
 use cil_text_tests::set_of;
 use std::alloc::Global;
 use std::test::Fail;

@@ -1,5 +1,5 @@
 use Rattle.std.specs.Prelude.{◌≡◌, ◌<◌, ℕ, Some, length, slice_get}
-use Rattle.cil_names.specs.declared.entry.Entry.{Entry}
+use Rattle.cil_known.specs.names.Entry.{Entry}
 use Rattle.cil_known.specs.Known.{enabled_in}
 use Rattle.cil_attrs.specs.Begun.{begun_as}
 use Rattle.cil_attrs.proofs.beginning.begun.Given as goal

@@ -1,6 +1,6 @@
 use Rattle.std.specs.Prelude.{◌↔◌, ℕ, get_or, false, true}
 use Rattle.std.proofs.Common.{◌≡◌, sym, subst}
-use Rattle.cil_macros.specs.Items.{items_in}
+use Rattle.cil_known.specs.macros.Items.{items_in}
 use Rattle.cil_attrs.specs.Made.{AreSetsAt}
 use Rattle.cil_attrs.specs.Members.{AreMembers}
 use Rattle.cil_attrs.specs.Order.{Depends, FallFor, IsAcyclic}

@@ -2,11 +2,11 @@ use Rattle.std.specs.Prelude.{length}
 use Rattle.std.proofs.Common.{◌≡◌, ◌≤◌, ◌∙◌, ap, subst, sym}
 use Rattle.std.proofs.lemmas.Bool.{true≢false}
 use Rattle.cil_base.specs.Places.{get_contains}
-use Rattle.cil_macros.specs.blocks.Namespaces.{space_at}
-use Rattle.cil_macros.specs.Items.{item_at, items_in}
-use Rattle.cil_macros.proofs.ItemLemmas.{item_there}
-use Rattle.cil_macros.proofs.ItemsThere.{keyword_there}
-use Rattle.cil_names.specs.Entries.{HasNoEntryIn, IsEntryIn, is_in}
+use Rattle.cil_known.specs.macros.blocks.Namespaces.{space_at}
+use Rattle.cil_known.specs.macros.Items.{item_at, items_in}
+use Rattle.cil_known.proofs.macros_lemmas.ItemLemmas.{item_there}
+use Rattle.cil_known.proofs.macros_lemmas.ItemsThere.{keyword_there}
+use Rattle.cil_known.specs.names.Entries.{HasNoEntryIn, IsEntryIn, is_in}
 use Rattle.cil_attrs.proofs.DeclaredLemmas.{flagged, left_out, no_entry, no_name, not_flagged, other_kind, said_so}
 use Rattle.cil_attrs.proofs.declared.flagged_name.Goals as goal
 

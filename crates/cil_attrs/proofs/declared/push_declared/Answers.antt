@@ -1,6 +1,6 @@
 use Rattle.std.proofs.Common.{◌<◌, ◌≤◌, arith, length}
-use Rattle.cil_macros.specs.Items.{item_at, items_in}
-use Rattle.cil_macros.proofs.ItemLemmas.{items_taken}
+use Rattle.cil_known.specs.macros.Items.{item_at, items_in}
+use Rattle.cil_known.proofs.macros_lemmas.ItemLemmas.{items_taken}
 use Rattle.cil_attrs.proofs.ToldLemmas.{all_told, more_told, none_told}
 use Rattle.cil_attrs.proofs.declared.push_declared.Goals as goal
 

@@ -1,6 +1,6 @@
 use Rattle.std.specs.Prelude.{take}
-use Rattle.cil_macros.specs.Items.{items_in}
-use Rattle.cil_names.specs.Entries.{is_in}
+use Rattle.cil_known.specs.macros.Items.{items_in}
+use Rattle.cil_known.specs.names.Entries.{is_in}
 use Rattle.cil_attrs.specs.Targets.{IsToldAt}
 use Rattle.cil_attrs.proofs.ToldLemmas.{AreTold}
 use Rattle.cil_attrs.proofs.declared.push_declared.Given as goal

@@ -1,11 +1,11 @@
 use Rattle.std.specs.Prelude.{length}
 use Rattle.std.proofs.Common.{◌≡◌, ◌≤◌, List, ◌∷◌, ◌++◌, ◌∙◌, [], ap, subst, sym}
-use Rattle.cil_macros.specs.blocks.Space.{Space}
-use Rattle.cil_macros.specs.blocks.Namespaces.{space_at}
+use Rattle.cil_known.specs.macros.blocks.Space.{Space}
+use Rattle.cil_known.specs.macros.blocks.Namespaces.{space_at}
 use Rattle.cil_faults.specs.Reported.{fault_at, spelled_fault}
 use Rattle.cil_faults.specs.Namespaces.{qualified}
-use Rattle.cil_macros.specs.Items.{item_at, items_in}
-use Rattle.cil_names.specs.Entries.{is_in}
+use Rattle.cil_known.specs.macros.Items.{item_at, items_in}
+use Rattle.cil_known.specs.names.Entries.{is_in}
 use Rattle.cil_attrs.specs.Targets.{IsToldAt}
 use Rattle.cil_attrs.proofs.ToldLemmas.{nothing_more, one_more}
 use Rattle.cil_attrs.proofs.declared.push_declared_at.Goals as goal

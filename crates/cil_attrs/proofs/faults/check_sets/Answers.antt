@@ -4,7 +4,7 @@ use Rattle.cil_base.specs.Lists.{Lists, text_cmp}
 use Rattle.cil_faults.specs.declared.code.FaultCode.TheVariants as causes
 use Rattle.cil_faults.specs.declared.fault.Fault.{Fault}
 use Rattle.cil_faults.proofs.RefusalLemmas.{answers_alike}
-use Rattle.cil_macros.specs.Items.{items_in}
+use Rattle.cil_known.specs.macros.Items.{items_in}
 use Rattle.cil_known.specs.Known.{enabled_in}
 use Rattle.cil_known.specs.Numbers.{has_section}
 use Rattle.cil_attrs.specs.SetFaults.{CircularSet, IsItemName, SetFault, TooMany, limit_of}

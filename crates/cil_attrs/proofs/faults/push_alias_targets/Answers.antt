@@ -3,8 +3,8 @@ use Rattle.std.specs.Option.{is_some}
 use Rattle.std.proofs.Common.{◌<◌, ◌∙◌, ap, length, subst, sym}
 use Rattle.cil_faults.specs.declared.code.FaultCode.TheVariants as causes
 use Rattle.cil_faults.specs.declared.fault.Fault.{Fault}
-use Rattle.cil_macros.specs.Items.{items_in}
-use Rattle.cil_names.specs.declared.entry.Entry.{Entry}
+use Rattle.cil_known.specs.macros.Items.{items_in}
+use Rattle.cil_known.specs.names.Entry.{Entry}
 use Rattle.cil_known.specs.Known.{enabled_in}
 use Rattle.cil_attrs.specs.Targets.{AreLast, HasOther, IsToldAmong, IsToldIn}
 use Rattle.cil_attrs.proofs.AliasLemmas.{alias_says, alias_told, alias_within}

@@ -2,8 +2,8 @@ use Rattle.std.specs.Prelude.{◌⊎◌, ◌↔◌, Contains}
 use Rattle.std.proofs.Common.{sym, ◌∙◌, subst}
 use Rattle.std.proofs.lemmas.Option.{same_Some}
 use Rattle.cil_faults.specs.declared.fault.Fault.{Fault}
-use Rattle.cil_macros.specs.Items.{items_in}
-use Rattle.cil_names.specs.Entries.{is_in}
+use Rattle.cil_known.specs.macros.Items.{items_in}
+use Rattle.cil_known.specs.names.Entries.{is_in}
 use Rattle.cil_attrs.specs.declared.giver.SetKind.{SetKind}
 use Rattle.cil_attrs.specs.Targets.{IsToldIn}
 use Rattle.cil_attrs.proofs.faults.push_circular.Goals as goal

@@ -1,8 +1,8 @@
 use Rattle.std.specs.Prelude.{length, Some}
 use Rattle.std.proofs.Common.{◌≡◌, ◌≤◌, ℕ, List, ◌∷◌, ◌++◌, ◌∙◌, [], ap, subst, sym}
 use Rattle.std.proofs.lemmas.Option.{none-some}
-use Rattle.cil_macros.specs.blocks.Space.{Space}
-use Rattle.cil_macros.specs.blocks.Namespaces.{space_at}
+use Rattle.cil_known.specs.macros.blocks.Space.{Space}
+use Rattle.cil_known.specs.macros.blocks.Namespaces.{space_at}
 use Rattle.cil_faults.specs.declared.code.FaultCode.TheVariants as causes
 use Rattle.cil_faults.specs.Reported.{fault_at, spelled_fault}
 use Rattle.cil_faults.specs.Namespaces.{qualified}
@@ -10,10 +10,10 @@ use Rattle.cil_syntax.specs.Forms.{two_words, word_and_term}
 use Rattle.cil_syntax.specs.Said.{args_of}
 use Rattle.cil_syntax.specs.Scopes.{ScopedWord}
 use Rattle.cil_syntax.specs.Terms.{Leaf}
-use Rattle.cil_macros.specs.Item.{all_replaced}
-use Rattle.cil_macros.specs.Items.{item_at, may_say_lists, says_as_written, word_at}
-use Rattle.cil_macros.proofs.FormLemmas.{no_pair, pair_across}
-use Rattle.cil_macros.proofs.ItemsThere.{keyword_there, named_there}
+use Rattle.cil_known.specs.macros.Item.{all_replaced}
+use Rattle.cil_known.specs.macros.Items.{item_at, may_say_lists, says_as_written, word_at}
+use Rattle.cil_known.proofs.macros_lemmas.FormLemmas.{no_pair, pair_across}
+use Rattle.cil_known.proofs.macros_lemmas.ItemsThere.{keyword_there, named_there}
 use Rattle.cil_attrs.specs.Targets.{IsFlagged, IsToldOf}
 use Rattle.cil_attrs.proofs.FaultLemmas.{told_step, two_said}
 use Rattle.cil_attrs.proofs.ToldLemmas.{one_more}

@@ -1,5 +1,5 @@
 use Rattle.std.proofs.Common.{subst}
-use Rattle.cil_macros.specs.Items.{items_in}
+use Rattle.cil_known.specs.macros.Items.{items_in}
 use Rattle.cil_known.specs.Known.{enabled_in}
 use Rattle.cil_attrs.specs.Givers.{AreSets}
 use Rattle.cil_attrs.proofs.FaultLemmas.{no_targets}

@@ -3,12 +3,12 @@ use Rattle.std.specs.Prelude.{None}
 use Rattle.cil_syntax.specs.Forms.{word_and_term}
 use Rattle.cil_syntax.specs.Said.{all_said, args_of, said_of}
 use Rattle.cil_syntax.specs.Terms.{Leaf, cons, nil}
-use Rattle.cil_macros.specs.Items.{item_at, word_at}
-use Rattle.cil_macros.proofs.ItemsThere.{keyword_there, named_there}
+use Rattle.cil_known.specs.macros.Items.{item_at, word_at}
+use Rattle.cil_known.proofs.macros_lemmas.ItemsThere.{keyword_there, named_there}
 use Rattle.cil_known.specs.Known.{value_in}
-use Rattle.cil_names.specs.Resolves.{is_mapping}
+use Rattle.cil_known.specs.names.Resolves.{is_mapping}
 use Rattle.cil_known.specs.Spaces.{any_sets}
-use Rattle.cil_names.proofs.ReadingLemmas.{plain_said}
+use Rattle.cil_known.proofs.names_lemmas.ReadingLemmas.{plain_said}
 use Rattle.cil_attrs.specs.Givers.{IsNamedSet, NamesNoSet}
 use Rattle.cil_attrs.proofs.GiverLemmas.{first_means, it_says, left_out, names_none, other_keyword, other_terms, rest_means, written_of}
 use Rattle.cil_attrs.proofs.giver.given_at.Goals as goal

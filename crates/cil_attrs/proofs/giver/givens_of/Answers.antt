@@ -1,8 +1,8 @@
 use Rattle.std.specs.Prelude.{[], option_map}
 use Rattle.std.proofs.Common.{refl, ◌<◌, ◌∙◌, ap, length, map, subst, sym, arith}
 use Rattle.std.proofs.lemmas.Option.{slice_get-map}
-use Rattle.cil_macros.specs.Items.{item_at, items_in}
-use Rattle.cil_macros.proofs.ItemLemmas.{item_there, items_taken}
+use Rattle.cil_known.specs.macros.Items.{item_at, items_in}
+use Rattle.cil_known.proofs.macros_lemmas.ItemLemmas.{item_there, items_taken}
 use Rattle.cil_known.specs.Known.{row_in}
 use Rattle.cil_attrs.specs.Givers.{AreGifts}
 use Rattle.cil_attrs.proofs.GiverLemmas.{all_gifts, gift_more, no_gifts, none_more}

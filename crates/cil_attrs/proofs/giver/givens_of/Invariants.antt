@@ -1,6 +1,6 @@
 use Rattle.std.specs.Prelude.{ℕ, List, take}
 use Rattle.cil_syntax.specs.declared.kind.Kind.{Kind}
-use Rattle.cil_macros.specs.Items.{items_in}
+use Rattle.cil_known.specs.macros.Items.{items_in}
 use Rattle.cil_known.specs.Known.{IsKnown}
 use Rattle.cil_known.specs.Spaces.{SpaceOf}
 use Rattle.cil_attrs.specs.Givers.{AreGifts, HasKinds}

@@ -1,5 +1,5 @@
 use Rattle.cil_macros.specs.Items.{items_in}
-use Rattle.cil_known.specs.Known.{enabled_in}
+use Rattle.cil_classes.specs.known.Known.{enabled_in}
 use Rattle.cil_constraints.proofs.GatherLemmas.{all_given}
 use Rattle.cil_constraints.proofs.gather.constraints.Goals as goal
 

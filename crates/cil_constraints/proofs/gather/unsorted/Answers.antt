@@ -4,7 +4,7 @@ use Rattle.std.proofs.lemmas.Option.{slice_get-map}
 use Rattle.cil_base.proofs.RecordLemmas.{all_records}
 use Rattle.cil_macros.specs.Items.{item_at, items_in}
 use Rattle.cil_macros.proofs.ItemLemmas.{item_there}
-use Rattle.cil_known.specs.Known.{row_in}
+use Rattle.cil_classes.specs.known.Known.{row_in}
 use Rattle.cil_constraints.proofs.GatherLemmas.{more_records, none_taken, taken_there}
 use Rattle.cil_constraints.proofs.gather.unsorted.Goals as goal
 

@@ -2,7 +2,7 @@ use Rattle.std.specs.Prelude.{◌≡◌, ◌↔◌, take, true}
 use Rattle.cil_macros.specs.Items.{items_in}
 use Rattle.cil_base.specs.Records.{AreRecordsOf}
 use Rattle.cil_mls.specs.OrderFaults.{Switches}
-use Rattle.cil_known.specs.Known.{enabled_in}
+use Rattle.cil_classes.specs.known.Known.{enabled_in}
 use Rattle.cil_constraints.specs.Compiled.{IsConstraintOf}
 use Rattle.cil_constraints.specs.ForNames.{ForNames}
 use Rattle.cil_constraints.specs.Stated.{CaseBy}

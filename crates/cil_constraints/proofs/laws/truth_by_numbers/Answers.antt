@@ -1,4 +1,4 @@
-use Rattle.cil_known.specs.Known.{enabled_in}
+use Rattle.cil_classes.specs.known.Known.{enabled_in}
 use Rattle.cil_constraints.proofs.TruthLemmas.{known_apart, truth_tells}
 use Rattle.cil_constraints.proofs.laws.truth_by_numbers.Goals as goal
 

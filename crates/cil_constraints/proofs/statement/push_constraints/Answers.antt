@@ -3,7 +3,7 @@ use Rattle.std.proofs.lemmas.Bool.{true≢false}
 use Rattle.cil_macros.specs.Items.{item_at, word_at}
 use Rattle.cil_macros.specs.ListTerms.{all_spotless}
 use Rattle.cil_macros.proofs.ItemsThere.{keyword_there}
-use Rattle.cil_known.specs.Known.{enabled_in}
+use Rattle.cil_classes.specs.known.Known.{enabled_in}
 use Rattle.cil_classes.proofs.AlikeLemmas.{itself_there}
 use Rattle.cil_constraints.specs.Constrained.{IsConstraining}
 use Rattle.cil_constraints.proofs.GatherLemmas.{constraint_written, constrains, constrains_back}

@@ -1,8 +1,8 @@
 use Rattle.std.proofs.Common.{◌≡◌, ◌++◌, ap, map, refl, subst, sym, ◌∙◌}
 use Rattle.cil_syntax.specs.Said.{all_said, args_of, said_of}
 use Rattle.cil_macros.proofs.FormLemmas.{across, all_across}
-use Rattle.cil_known.specs.Known.{enabled_in, value_in}
-use Rattle.cil_names.proofs.ReadingLemmas.{plain_said}
+use Rattle.cil_classes.specs.known.Known.{enabled_in, value_in}
+use Rattle.cil_classes.proofs.names_lemmas.ReadingLemmas.{plain_said}
 use Rattle.cil_classes.proofs.AlikeLemmas.{like_args, row_alike, with_args}
 use Rattle.cil_classes.specs.Perms.{AreMasksOf}
 use Rattle.cil_constraints.specs.Stated.{constraint_with}

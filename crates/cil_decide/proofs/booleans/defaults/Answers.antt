@@ -1,7 +1,7 @@
 use Rattle.std.specs.Prelude.{◌↔◌}
 use Rattle.std.proofs.Common.{length, subst, arith, ◌≤◌}
 use Rattle.std.proofs.lemmas.Option.{slice_get-get_or}
-use Rattle.cil_conditions.specs.Bits.{IsOn}
+use Rattle.cil_tables.specs.conditions.Bits.{IsOn}
 use Rattle.cil_decide.specs.Decides.{IsOnAtFirst}
 use Rattle.cil_decide.proofs.BooleanLemmas.{all_on, none_on_yet, one_more_on}
 use Rattle.cil_decide.proofs.booleans.defaults.Goals as goal

@@ -5,7 +5,7 @@ use Rattle.std.proofs.lemmas.List.Sorted.{IsPartitionPoint-from_clause}
 use Rattle.std.proofs.lemmas.Cmp.{nat_list_cmp_total}
 use Rattle.std.proofs.lemmas.Map.Lookups.{exact_bytes}
 use Rattle.cil_base.specs.Lists.{text_cmp}
-use Rattle.cil_blocks.proofs.RunLemmas.{before_parted, is_before, is_upto, of_key, sorted_left, upto_parted}
+use Rattle.cil_tables.proofs.blocks_lemmas.RunLemmas.{before_parted, is_before, is_upto, of_key, sorted_left, upto_parted}
 use Rattle.cil_decide.proofs.ContextParts.{name_of_alias, names_rise}
 use Rattle.cil_decide.proofs.context.aliases_named.Goals as goal
 

@@ -1,6 +1,6 @@
 use Rattle.std.proofs.Common.{subst}
 use Rattle.cil_rules.proofs.classes_lemmas.BitLemmas.{none_set}
-use Rattle.cil_conditions.specs.Bits.{is_on}
+use Rattle.cil_rules.specs.conditions.Bits.{is_on}
 use Rattle.cil_index.specs.declared.asked.Asked.{Asked}
 use Rattle.cil_index.specs.Found.{AreAims, turned}
 use Rattle.cil_index.specs.Searched.{rules_in}

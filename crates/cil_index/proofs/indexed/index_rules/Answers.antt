@@ -2,7 +2,7 @@ use Rattle.std.proofs.Common.{List, map, subst, sym, ◌∙◌}
 use Rattle.std.specs.Prelude.{Contains}
 use Rattle.std.proofs.lemmas.Result.{IfOk-weaker}
 use Rattle.cil_base.specs.Lists.{Lists}
-use Rattle.cil_conditions.specs.declared.branch.Branch.{Branch}
+use Rattle.cil_rules.specs.conditions.Branch.{Branch}
 use Rattle.cil_rules.specs.declared.rule.NamedRule.{NamedRule}
 use Rattle.cil_rules.specs.Kept.{rule_named}
 use Rattle.cil_rules.specs.Order.{rule_cmp}

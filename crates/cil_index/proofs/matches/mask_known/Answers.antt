@@ -1,6 +1,6 @@
 use Rattle.cil_base.proofs.AtPlace.{made_at}
 use Rattle.cil_index.specs.Kept.{rule_of}
-use Rattle.cil_conditions.specs.Bits.{is_on}
+use Rattle.cil_rules.specs.conditions.Bits.{is_on}
 use Rattle.cil_index.specs.Searched.{rules_in}
 use Rattle.cil_index.proofs.CoverLemmas.{at_other, at_rule}
 use Rattle.cil_index.proofs.matches.mask_known.Goals as goal

@@ -1,7 +1,7 @@
 use Rattle.std.proofs.Common.{subst, sym}
 use Rattle.cil_macros.specs.Items.{items_in}
 use Rattle.cil_known.specs.Known.{enabled_in}
-use Rattle.cil_levels.specs.Held.{HoldValues}
+use Rattle.cil_tables.specs.levels_crate.Held.{HoldValues}
 use Rattle.cil_mls.specs.OrderFaults.{AreOrders}
 use Rattle.cil_level_tests.proofs.orders.show_values.Goals as goal
 

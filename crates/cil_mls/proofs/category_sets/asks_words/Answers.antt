@@ -5,9 +5,9 @@ use Rattle.cil_syntax.specs.Said.{all_said, args_of}
 use Rattle.cil_syntax.specs.Scopes.{ScopedWord}
 use Rattle.cil_syntax.specs.Table.{entry_of}
 use Rattle.cil_syntax.specs.Terms.{Terms}
-use Rattle.cil_macros.specs.Item.{all_words_in}
-use Rattle.cil_macros.specs.Items.{word_at}
-use Rattle.cil_macros.proofs.ItemsThere.{keyword_there, said_there}
+use Rattle.cil_attrs.specs.macros.Item.{all_words_in}
+use Rattle.cil_attrs.specs.macros.Items.{word_at}
+use Rattle.cil_attrs.proofs.macros_lemmas.ItemsThere.{keyword_there, said_there}
 use Rattle.cil_attrs.specs.names.Resolves.{Word as AWord, all_wanted_in}
 use Rattle.cil_attrs.specs.Plain.{are_plain}
 use Rattle.cil_attrs.proofs.DeclaredLemmas.{declares_written}

@@ -5,7 +5,7 @@ use Rattle.cil_faults.specs.declared.code.FaultCode.TheVariants as causes
 use Rattle.cil_faults.specs.declared.fault.Fault.{Fault}
 use Rattle.cil_faults.proofs.RefusalLemmas.{answers_alike}
 use Rattle.cil_syntax.specs.declared.kind.Kind.TheVariants as kinds
-use Rattle.cil_macros.specs.Items.{items_in}
+use Rattle.cil_attrs.specs.macros.Items.{items_in}
 use Rattle.cil_attrs.specs.known.Known.{enabled_in}
 use Rattle.cil_attrs.specs.Targets.{IsToldIn}
 use Rattle.cil_mls.specs.CategorySets.{CircularSet}

@@ -1,7 +1,7 @@
 use Rattle.std.proofs.Common.{List, subst}
 use Rattle.cil_attrs.specs.names.Entry.{Entry}
 use Rattle.cil_mls.specs.Pairs.{LeadMore}
-use Rattle.cil_macros.specs.Items.{item_at, items_in}
+use Rattle.cil_attrs.specs.macros.Items.{item_at, items_in}
 use Rattle.cil_mls.specs.SetEdges.{IsSetEdge}
 use Rattle.cil_mls.proofs.PairLemmas.{lead_as, no_more}
 use Rattle.cil_mls.proofs.SetEdgeLemmas.{LeadsTo, its_edges, no_edges}

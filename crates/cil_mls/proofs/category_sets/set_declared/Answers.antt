@@ -3,17 +3,17 @@ use Rattle.std.proofs.Common.{◌≡◌, ◌≤◌, ◌∙◌, ap, subst, sym}
 use Rattle.std.proofs.lemmas.Bool.{true≢false}
 use Rattle.std.proofs.lemmas.Option.{none-some}
 use Rattle.cil_base.specs.Places.{get_contains}
-use Rattle.cil_macros.specs.blocks.Namespaces.{space_at}
+use Rattle.cil_attrs.specs.macros.blocks.Namespaces.{space_at}
 use Rattle.cil_syntax.specs.declared.kind.Keyword.{Keyword}
 use Rattle.cil_syntax.specs.declared.kind.Kind.TheVariants as kinds
 use Rattle.cil_syntax.specs.declared.kind.Sign.TheVariants as signs
 use Rattle.cil_syntax.specs.Forms.{name_in_front}
 use Rattle.cil_syntax.specs.Said.{args_of}
 use Rattle.cil_syntax.specs.Table.{entry_of}
-use Rattle.cil_macros.specs.Items.{item_at, items_in}
-use Rattle.cil_macros.proofs.ItemLemmas.{item_there}
-use Rattle.cil_macros.proofs.ItemsThere.{keyword_there}
-use Rattle.cil_macros.proofs.SaidTerms.{front_said, front_written}
+use Rattle.cil_attrs.specs.macros.Items.{item_at, items_in}
+use Rattle.cil_attrs.proofs.macros_lemmas.ItemLemmas.{item_there}
+use Rattle.cil_attrs.proofs.macros_lemmas.ItemsThere.{keyword_there}
+use Rattle.cil_attrs.proofs.macros_lemmas.SaidTerms.{front_said, front_written}
 use Rattle.cil_attrs.specs.names.Entries.{HasNoEntryIn, IsEntryIn}
 use Rattle.cil_attrs.proofs.DeclaredLemmas.{declares_written, said_so}
 use Rattle.cil_mls.proofs.SetEdgeLemmas.{declares_just}

@@ -1,5 +1,5 @@
 use Rattle.std.specs.Prelude.{take}
-use Rattle.cil_macros.specs.Items.{items_in}
+use Rattle.cil_attrs.specs.macros.Items.{items_in}
 use Rattle.cil_mls.proofs.SetEdgeLemmas.{LeadAmong}
 use Rattle.cil_mls.proofs.category_sets.unsorted_edges.Given as goal
 

@@ -3,7 +3,7 @@ use Rattle.std.proofs.Common.{List, ℕ, subst, sym}
 use Rattle.cil_faults.proofs.RefusalLemmas.{refused}
 use Rattle.cil_syntax.specs.declared.kind.Keyword.TheVariants as keywords
 use Rattle.cil_syntax.specs.declared.kind.Kind.TheVariants as kinds
-use Rattle.cil_macros.specs.Items.{items_in}
+use Rattle.cil_attrs.specs.macros.Items.{items_in}
 use Rattle.cil_attrs.specs.known.Known.{enabled_in}
 use Rattle.cil_attrs.specs.known.Members.{space_of}
 use Rattle.cil_attrs.specs.known.Numbers.{names_of}

@@ -1,5 +1,5 @@
 use Rattle.std.proofs.Common.{ap, length, subst, sym}
-use Rattle.cil_macros.specs.Items.{items_in}
+use Rattle.cil_attrs.specs.macros.Items.{items_in}
 use Rattle.cil_attrs.specs.known.Known.{AreStanding}
 use Rattle.cil_attrs.specs.known.Members.{space_of}
 use Rattle.cil_attrs.specs.Members.{AreMembers}

@@ -1,7 +1,7 @@
 use Rattle.std.proofs.Common.{List, subst, sym}
 use Rattle.std.proofs.lemmas.List.Elements.{Contains-get_or}
 use Rattle.cil_settle.specs.declared.edge.Edge.{Edge}
-use Rattle.cil_macros.specs.Items.{items_in}
+use Rattle.cil_attrs.specs.macros.Items.{items_in}
 use Rattle.cil_mls.proofs.OrderingLemmas.{answers_so, edges_within}
 use Rattle.cil_mls.proofs.PairLemmas.{LeadIn}
 use Rattle.cil_mls.proofs.item_order.order_in.Goals as goal

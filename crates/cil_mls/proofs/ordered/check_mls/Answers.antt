@@ -1,4 +1,4 @@
-use Rattle.cil_macros.specs.Items.{items_in}
+use Rattle.cil_attrs.specs.macros.Items.{items_in}
 use Rattle.cil_attrs.specs.known.Known.{enabled_in}
 use Rattle.cil_mls.proofs.OrderFaultLemmas.{both_told, not_on, only_on}
 use Rattle.cil_mls.proofs.ordered.check_mls.Goals as goal

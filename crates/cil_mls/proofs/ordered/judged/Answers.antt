@@ -1,7 +1,7 @@
 use Rattle.std.proofs.Common.{refl}
 use Rattle.cil_faults.proofs.BothLemmas.{answers_both}
 use Rattle.cil_syntax.specs.declared.kind.Kind.TheVariants as kinds
-use Rattle.cil_macros.specs.Items.{items_in}
+use Rattle.cil_attrs.specs.macros.Items.{items_in}
 use Rattle.cil_attrs.specs.known.Known.{enabled_in}
 use Rattle.cil_attrs.specs.known.Numbers.{names_of}
 use Rattle.cil_attrs.proofs.FaultLemmas.{names_are}

@@ -1,5 +1,5 @@
 use Rattle.cil_faults.proofs.RefusalLemmas.{fails_alike, refused}
-use Rattle.cil_macros.specs.Items.{items_in}
+use Rattle.cil_attrs.specs.macros.Items.{items_in}
 use Rattle.cil_attrs.specs.known.Known.{enabled_in}
 use Rattle.cil_mls.specs.OrderFaults.{AreOrders, OrderFault}
 use Rattle.cil_mls.specs.OrderParts.{JudgedFault}

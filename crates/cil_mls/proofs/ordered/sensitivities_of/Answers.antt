@@ -2,7 +2,7 @@ use Rattle.cil_faults.proofs.RefusalLemmas.{refused}
 use Rattle.cil_faults.specs.declared.code.FaultCode.TheVariants as causes
 use Rattle.cil_syntax.specs.declared.kind.Keyword.TheVariants as keywords
 use Rattle.cil_syntax.specs.declared.kind.Kind.TheVariants as kinds
-use Rattle.cil_macros.specs.Items.{items_in}
+use Rattle.cil_attrs.specs.macros.Items.{items_in}
 use Rattle.cil_attrs.specs.known.Known.{enabled_in}
 use Rattle.cil_mls.specs.OrderParts.{IsOrderOf, SpaceFault}
 use Rattle.cil_mls.proofs.OrderFaultLemmas.{aliases_refused, order_judged}

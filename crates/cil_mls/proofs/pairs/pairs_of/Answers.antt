@@ -1,8 +1,8 @@
 use Rattle.std.specs.Prelude.{option_map, take}
 use Rattle.std.proofs.Common.{◌<◌, ◌∙◌, ap, length, map, subst, sym, arith}
 use Rattle.std.proofs.lemmas.Option.{slice_get-map}
-use Rattle.cil_macros.specs.Items.{item_at, items_in}
-use Rattle.cil_macros.proofs.ItemLemmas.{item_there, items_taken}
+use Rattle.cil_attrs.specs.macros.Items.{item_at, items_in}
+use Rattle.cil_attrs.proofs.macros_lemmas.ItemLemmas.{item_there, items_taken}
 use Rattle.cil_attrs.specs.known.Known.{row_in}
 use Rattle.cil_mls.proofs.PairLemmas.{LeadIn, all_in, more_in, none_in}
 use Rattle.cil_mls.proofs.pairs.pairs_of.Goals as goal

@@ -1,5 +1,5 @@
 use Rattle.std.specs.Prelude.{take}
-use Rattle.cil_macros.specs.Items.{items_in}
+use Rattle.cil_attrs.specs.macros.Items.{items_in}
 use Rattle.cil_mls.proofs.PairLemmas.{LeadIn}
 use Rattle.cil_mls.proofs.pairs.pairs_of.Given as goal
 

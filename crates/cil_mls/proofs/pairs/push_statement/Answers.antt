@@ -1,8 +1,8 @@
 use Rattle.std.proofs.Common.{true, false, sym, ap, ◌∙◌, ◌≡◌}
 use Rattle.std.proofs.lemmas.Bool.{true≢false}
 use Rattle.cil_syntax.specs.Said.{all_said, args_of}
-use Rattle.cil_macros.specs.Items.{item_at, may_say_lists, says_as_written, word_at}
-use Rattle.cil_macros.proofs.ItemsThere.{keyword_there, named_there}
+use Rattle.cil_attrs.specs.macros.Items.{item_at, may_say_lists, says_as_written, word_at}
+use Rattle.cil_attrs.proofs.macros_lemmas.ItemsThere.{keyword_there, named_there}
 use Rattle.cil_attrs.specs.names.Resolves.{is_mapping}
 use Rattle.cil_mls.specs.Pairs.{IsPairBy, are_word_list}
 use Rattle.cil_mls.proofs.PairLemmas.{lead_as, next_by, no_more}

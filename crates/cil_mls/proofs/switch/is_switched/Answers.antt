@@ -1,8 +1,8 @@
 use Rattle.std.proofs.Common.{◌<◌, ◌∙◌, length, refl, sym, arith}
 use Rattle.std.proofs.lemmas.Bool.{true≢false}
 use Rattle.cil_base.specs.Places.{get_contains}
-use Rattle.cil_macros.specs.Items.{item_at, items_in}
-use Rattle.cil_macros.proofs.ItemLemmas.{item_there, items_taken}
+use Rattle.cil_attrs.specs.macros.Items.{item_at, items_in}
+use Rattle.cil_attrs.proofs.macros_lemmas.ItemLemmas.{item_there, items_taken}
 use Rattle.cil_attrs.specs.known.Known.{enabled_in}
 use Rattle.cil_mls.proofs.SwitchLemmas.{none_at_first, none_switches, one_more, switched}
 use Rattle.cil_mls.proofs.switch.is_switched.Goals as goal

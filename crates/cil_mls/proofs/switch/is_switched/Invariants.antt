@@ -1,5 +1,5 @@
 use Rattle.std.specs.Prelude.{take}
-use Rattle.cil_macros.specs.Items.{items_in}
+use Rattle.cil_attrs.specs.macros.Items.{items_in}
 use Rattle.cil_attrs.specs.known.Known.{enabled_in}
 use Rattle.cil_mls.proofs.SwitchLemmas.{NoneSwitches}
 use Rattle.cil_mls.proofs.switch.is_switched.Given as goal

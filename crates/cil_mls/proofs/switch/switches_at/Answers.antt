@@ -1,8 +1,8 @@
 use Rattle.std.proofs.Common.{◌≡◌, true, ◌&&◌, sym, ◌∙◌, ap}
 use Rattle.cil_syntax.specs.Said.{all_said, args_of}
-use Rattle.cil_macros.specs.Item.{is_enabled}
-use Rattle.cil_macros.specs.Items.{item_at, word_at}
-use Rattle.cil_macros.proofs.ItemsThere.{keyword_there, named_there}
+use Rattle.cil_attrs.specs.macros.Item.{is_enabled}
+use Rattle.cil_attrs.specs.macros.Items.{item_at, word_at}
+use Rattle.cil_attrs.proofs.macros_lemmas.ItemsThere.{keyword_there, named_there}
 use Rattle.cil_attrs.specs.known.Known.{enabled_in}
 use Rattle.cil_mls.specs.Switch.{is_mls, is_switch}
 use Rattle.cil_mls.proofs.SwitchLemmas.{mls_as_written, mls_named, no_switch, switch_replaced, switches_so}

@@ -2,7 +2,7 @@ use Rattle.std.proofs.Common.{subst, sym}
 use Rattle.cil_faults.proofs.RefusalLemmas.{answers_alike}
 use Rattle.cil_macros.specs.Items.{item_at, items_in}
 use Rattle.cil_macros.proofs.ItemLemmas.{item_there}
-use Rattle.cil_known.specs.Known.{enabled_in}
+use Rattle.cil_index.specs.known.Known.{enabled_in}
 use Rattle.cil_neverallow.specs.NeverFaults.{NeverFault}
 use Rattle.cil_neverallow.specs.Permissions.{AreIn}
 use Rattle.cil_neverallow.proofs.PermissionLemmas.{same_back, same_there}

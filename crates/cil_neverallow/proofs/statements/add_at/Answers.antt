@@ -4,7 +4,7 @@ use Rattle.std.proofs.Common.{◌∙◌, ◌++◌, ◌∷◌, [], ap, map, refl,
 use Rattle.std.proofs.lemmas.Option.{slice_get-map}
 use Rattle.cil_macros.specs.Items.{item_at, items_in}
 use Rattle.cil_macros.proofs.ItemLemmas.{item_there}
-use Rattle.cil_known.specs.Known.{row_in}
+use Rattle.cil_index.specs.known.Known.{row_in}
 use Rattle.cil_neverallow.specs.Permissions.{AreApart}
 use Rattle.cil_neverallow.proofs.StatementLemmas.{of_room, was_kept, was_left}
 use Rattle.cil_neverallow.proofs.statements.add_at.Goals as goal

@@ -2,8 +2,8 @@ use Rattle.std.specs.Prelude.{◌<◌, ◌≤◌, ℕ, List, Contains, length}
 use Rattle.cil_syntax.specs.declared.kind.Kind.{Kind}
 use Rattle.cil_syntax.specs.declared.kind.Kind.TheVariants as kinds
 use Rattle.cil_macros.specs.Items.{item_at, items_in}
-use Rattle.cil_known.specs.Known.{AreStanding, IsKnown, enabled_in}
-use Rattle.cil_known.specs.Numbers.{AreApart}
+use Rattle.cil_index.specs.known.Known.{AreStanding, IsKnown, enabled_in}
+use Rattle.cil_index.specs.known.Numbers.{AreApart}
 use Rattle.cil_index.specs.classes.ClassRows.{AreClasses}
 use Rattle.cil_index.specs.classes.Held.{IsAssigned}
 use Rattle.cil_index.specs.rules.Records.{ignored, CaseBy, IsRuleOf}

@@ -1,7 +1,7 @@
 use Rattle.std.specs.Prelude.{length}
 use Rattle.std.proofs.Common.{◌≡◌, ◌≤◌, List, ◌∷◌, ◌++◌, ◌∙◌, [], ap, subst, sym}
-use Rattle.cil_blocks.specs.declared.namespaces.Space.{Space}
-use Rattle.cil_blocks.specs.Namespaces.{space_at}
+use Rattle.cil_macros.specs.blocks.Space.{Space}
+use Rattle.cil_macros.specs.blocks.Namespaces.{space_at}
 use Rattle.cil_faults.specs.declared.code.FaultCode.TheVariants as causes
 use Rattle.cil_faults.specs.declared.spot.Spot.{Spot}
 use Rattle.cil_faults.specs.Reported.{spelled_fault}

@@ -3,7 +3,7 @@ use Rattle.std.proofs.Common.{◌≡◌, ◌≤◌, ◌∙◌, ap, subst, sym}
 use Rattle.std.proofs.lemmas.Bool.{true≢false}
 use Rattle.std.proofs.lemmas.Option.{none-some}
 use Rattle.cil_base.specs.Places.{get_contains}
-use Rattle.cil_blocks.specs.Namespaces.{space_at}
+use Rattle.cil_macros.specs.blocks.Namespaces.{space_at}
 use Rattle.cil_syntax.specs.declared.kind.Keyword.{Keyword}
 use Rattle.cil_syntax.specs.Forms.{name_in_front}
 use Rattle.cil_syntax.specs.Said.{args_of}
@@ -13,7 +13,7 @@ use Rattle.cil_macros.proofs.ItemLemmas.{item_there}
 use Rattle.cil_macros.proofs.ItemsThere.{keyword_there}
 use Rattle.cil_macros.proofs.SaidTerms.{front_said, front_written}
 use Rattle.cil_names.specs.Entries.{HasNoEntryIn, IsEntryIn}
-use Rattle.cil_attrs.proofs.DeclaredLemmas.{declares_written, said_so}
+use Rattle.cil_mls.proofs.attrs_lemmas.DeclaredLemmas.{declares_written, said_so}
 use Rattle.cil_ranges.proofs.DeclaredLemmas.{declares_just}
 use Rattle.cil_ranges.proofs.declared.entry_declared.Goals as goal
 

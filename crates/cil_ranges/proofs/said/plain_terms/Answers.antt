@@ -3,7 +3,7 @@ use Rattle.cil_syntax.specs.Said.{all_said}
 use Rattle.cil_macros.specs.Items.{item_at}
 use Rattle.cil_macros.specs.Listed.{all_parts_of}
 use Rattle.cil_macros.specs.ListTerms.{numbered}
-use Rattle.cil_attrs.specs.Plain.{are_plain}
+use Rattle.cil_mls.specs.attrs.Plain.{are_plain}
 use Rattle.cil_ranges.proofs.BehindLemmas.{declared_read}
 use Rattle.cil_ranges.proofs.said.plain_terms.Goals as goal
 

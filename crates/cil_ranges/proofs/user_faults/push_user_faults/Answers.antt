@@ -6,7 +6,7 @@ use Rattle.cil_faults.specs.declared.code.FaultCode.TheVariants as causes
 use Rattle.cil_syntax.specs.declared.kind.Kind.TheVariants as kinds
 use Rattle.cil_macros.specs.Items.{items_in}
 use Rattle.cil_known.specs.Known.{enabled_in}
-use Rattle.cil_attrs.specs.Targets.{IsToldIn}
+use Rattle.cil_mls.specs.attrs.Targets.{IsToldIn}
 use Rattle.cil_mls.specs.declared.level.Range.{Range}
 use Rattle.cil_ranges.specs.Given.{AreWithout}
 use Rattle.cil_ranges.specs.Users.{HasTwoRanges}

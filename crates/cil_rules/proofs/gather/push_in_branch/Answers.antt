@@ -3,7 +3,7 @@ use Rattle.std.proofs.lemmas.Bool.{true≢false}
 use Rattle.cil_syntax.specs.declared.kind.Kind.TheVariants as kinds
 use Rattle.cil_macros.specs.Items.{item_at, items_in}
 use Rattle.cil_macros.proofs.ItemsThere.{keyword_there}
-use Rattle.cil_known.specs.Known.{enabled_in}
+use Rattle.cil_conditions.specs.known.Known.{enabled_in}
 use Rattle.cil_rules.proofs.BehindLemmas.{none_behind}
 use Rattle.cil_rules.proofs.BranchLemmas.{put_is_said}
 use Rattle.cil_rules.proofs.RuleLemmas.{not_taken, other_keyword}

@@ -3,7 +3,7 @@ use Rattle.std.proofs.Common.{◌≡◌, ◌<◌, ◌∙◌, ap, length, map, su
 use Rattle.std.proofs.lemmas.Option.{slice_get-map}
 use Rattle.cil_macros.specs.Items.{item_at, items_in}
 use Rattle.cil_macros.proofs.ItemLemmas.{item_there}
-use Rattle.cil_known.specs.Known.{row_in}
+use Rattle.cil_conditions.specs.known.Known.{row_in}
 use Rattle.cil_rules.specs.Listed.{AreRulesOf}
 use Rattle.cil_rules.proofs.BehindLemmas.{all_rules, more_rules, no_rules}
 use Rattle.cil_rules.proofs.gather.rules.Goals as goal

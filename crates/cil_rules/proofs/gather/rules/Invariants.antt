@@ -8,8 +8,8 @@ use Rattle.cil_rules.specs.Listed.{AreRulesOf}
 use Rattle.cil_rules.specs.Records.{IsRuleOf, CaseBy, spelled}
 use Rattle.cil_classes.specs.ClassRows.{AreClasses}
 use Rattle.cil_classes.specs.Held.{IsAssigned}
-use Rattle.cil_known.specs.Numbers.{AreApart}
-use Rattle.cil_known.specs.Known.{AreStanding, IsKnown, enabled_in}
+use Rattle.cil_conditions.specs.known.Numbers.{AreApart}
+use Rattle.cil_conditions.specs.known.Known.{AreStanding, IsKnown, enabled_in}
 use Rattle.cil_rules.proofs.gather.rules.Given as goal
 
 abbrev pub invariant-loop-at : goal.invariant-loop-at

@@ -2,10 +2,10 @@ use Rattle.std.proofs.Common.{◌≡◌, ◌++◌, ap, map, refl, subst, sym, �
 use Rattle.cil_syntax.specs.declared.kind.Kind.TheVariants as kinds
 use Rattle.cil_syntax.specs.Said.{args_of, said_of}
 use Rattle.cil_macros.proofs.FormLemmas.{all_across}
-use Rattle.cil_known.specs.Known.{enabled_in, value_in}
-use Rattle.cil_names.specs.Resolves.{is_mapping}
-use Rattle.cil_names.specs.Unresolved.{term_with}
-use Rattle.cil_names.proofs.ReadingLemmas.{plain_said}
+use Rattle.cil_conditions.specs.known.Known.{enabled_in, value_in}
+use Rattle.cil_classes.specs.names.Resolves.{is_mapping}
+use Rattle.cil_classes.specs.names.Unresolved.{term_with}
+use Rattle.cil_classes.proofs.names_lemmas.ReadingLemmas.{plain_said}
 use Rattle.cil_classes.proofs.AlikeLemmas.{like_args, row_alike, with_args}
 use Rattle.cil_classes.specs.Perms.{AreMasksOf}
 use Rattle.cil_rules.proofs.BehindLemmas.{none_behind}

@@ -1,7 +1,7 @@
 use Rattle.std.proofs.Common.{List, map, subst}
 use Rattle.std.specs.Prelude.{Contains}
 use Rattle.cil_base.specs.Lists.{Lists}
-use Rattle.cil_conditions.specs.declared.branch.Branch.{Branch}
+use Rattle.cil_neverallow.specs.conditions.Branch.{Branch}
 use Rattle.cil_neverallow.specs.rules.Kept.{rule_named}
 use Rattle.cil_neverallow.specs.rules.Order.{rule_cmp}
 use Rattle.cil_neverallow.proofs.rules_lemmas.RuleLemmas.{rules_listed}

@@ -1,6 +1,6 @@
 use Rattle.std.proofs.Common.{◌≡◌, sym, ◌∙◌, Some}
 use Rattle.std.specs.Map.{lookup}
-use Rattle.cil_conditions.specs.Bits.{is_on}
+use Rattle.cil_decide.specs.conditions.Bits.{is_on}
 use Rattle.cil_avc.specs.declared.key.Key.{Key}
 use Rattle.cil_avc.proofs.CacheLemmas.{same, found, either, after_hit, true_hit, after_miss, true_miss}
 use Rattle.cil_avc.proofs.cache.Avc.lookup.Goals as goal

@@ -1,4 +1,4 @@
-use Rattle.cil_conditions.specs.Bits.{is_on}
+use Rattle.cil_rules.specs.conditions.Bits.{is_on}
 use Rattle.cil_index.specs.Searched.{rules_in}
 use Rattle.std.proofs.Common.{arith, subst, ◌+◌, ◌≡◌}
 use Rattle.cil_rules.proofs.classes_lemmas.BitLemmas.{none_set}

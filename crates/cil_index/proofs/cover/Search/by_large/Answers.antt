@@ -1,5 +1,5 @@
 use Rattle.std.proofs.Common.{◌≤◌, length, subst}
-use Rattle.cil_conditions.specs.Bits.{is_on}
+use Rattle.cil_rules.specs.conditions.Bits.{is_on}
 use Rattle.cil_index.specs.Found.{IsAmongSeveral}
 use Rattle.cil_index.specs.Searched.{rules_in}
 use Rattle.cil_index.proofs.CoverLemmas.{joined_next, joined_to, none_joined_from}

@@ -1,6 +1,6 @@
 use Rattle.std.proofs.Common.{ℕ, subst}
 use Rattle.std.specs.Prelude.{Contains}
-use Rattle.cil_conditions.specs.Bits.{is_on}
+use Rattle.cil_rules.specs.conditions.Bits.{is_on}
 use Rattle.cil_index.specs.Searched.{rules_in}
 use Rattle.cil_index.specs.Found.{HandOver, IsAmongSeveral}
 use Rattle.cil_index.proofs.cover.Search.by_own.Goals as goal

@@ -1,6 +1,6 @@
 use Rattle.std.proofs.Common.{get_or}
 use Rattle.std.proofs.lemmas.List.{get_or_default}
-use Rattle.cil_conditions.specs.Bits.{is_on}
+use Rattle.cil_rules.specs.conditions.Bits.{is_on}
 use Rattle.cil_index.specs.Found.{IsAmongSeveral}
 use Rattle.cil_index.specs.Searched.{rules_in}
 use Rattle.cil_index.proofs.CoverLemmas.{all_sources, joined_source, none_joined}

@@ -1,4 +1,4 @@
-use Rattle.cil_conditions.specs.Bits.{is_on}
+use Rattle.cil_rules.specs.conditions.Bits.{is_on}
 use Rattle.cil_index.specs.Found.{IsAmongSeveral}
 use Rattle.cil_index.specs.Searched.{rules_in}
 use Rattle.cil_index.proofs.CoverLemmas.{AreJoined}

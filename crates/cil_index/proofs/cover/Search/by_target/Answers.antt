@@ -1,7 +1,7 @@
 use Rattle.std.specs.Prelude.{bit_or}
 use Rattle.std.proofs.Common.{ap, inl, inr, length, subst, ◌+◌, ◌∙◌}
 use Rattle.cil_rules.proofs.classes_lemmas.BitLemmas.{set_in_either}
-use Rattle.cil_conditions.specs.Bits.{is_on}
+use Rattle.cil_rules.specs.conditions.Bits.{is_on}
 use Rattle.cil_index.specs.Found.{Hands, Leads}
 use Rattle.cil_index.specs.Searched.{rules_in}
 use Rattle.cil_index.proofs.CoverLemmas.{two_runs}

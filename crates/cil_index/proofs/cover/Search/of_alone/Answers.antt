@@ -1,6 +1,6 @@
 use Rattle.std.proofs.Common.{arith, get_or, subst, sym, ◌+◌, ◌≡◌, ◌∙◌}
 use Rattle.std.proofs.lemmas.List.{get_or_default}
-use Rattle.cil_conditions.specs.Bits.{is_on}
+use Rattle.cil_rules.specs.conditions.Bits.{is_on}
 use Rattle.cil_index.specs.Found.{IsTheAlone}
 use Rattle.cil_index.specs.Searched.{rules_in}
 use Rattle.cil_index.proofs.CoverLemmas.{IsJoined, joined_all, joined_more, joined_pass, joined_up_to}

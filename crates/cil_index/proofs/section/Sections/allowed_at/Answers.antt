@@ -1,7 +1,7 @@
 use Rattle.std.specs.Prelude.{◌↔◌, IsBitSet}
 use Rattle.std.proofs.Common.{List, ◌≡◌, ◌<◌, ◌≤◌, ℕ, ap, get_or, length, map, subst}
-use Rattle.cil_conditions.specs.Bits.{is_on}
-use Rattle.cil_conditions.specs.declared.branch.Branch.{Branch}
+use Rattle.cil_rules.specs.conditions.Bits.{is_on}
+use Rattle.cil_rules.specs.conditions.Branch.{Branch}
 use Rattle.cil_rules.specs.Rule.{Rule}
 use Rattle.cil_index.specs.declared.record.Record.{Record}
 use Rattle.cil_index.specs.Found.{CoversAt}

@@ -1,0 +1,2 @@
+-- What crates above take of cil_optionals.
+pub use Rattle.cil_host.specs.optionals.WhyLine
