@@ -1,0 +1,4 @@
+pub mod Agreed
+pub mod MaskLemmas
+pub mod NextLoaded
+pub mod NextMoment
