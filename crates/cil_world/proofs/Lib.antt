@@ -1,4 +1,7 @@
 pub mod Agreed
+pub mod EventLemmas
+pub mod ExportLemmas
 pub mod MaskLemmas
 pub mod NextLoaded
 pub mod NextMoment
+pub mod RunLemmas

@@ -9,6 +9,7 @@ use Rattle.cil_host.specs.sexpr.Text.{IsReadable}
 use Rattle.cil_world.specs.declared.event.Event.{Event}
 use Rattle.cil_world.specs.declared.event.Event.TheVariants.{Install, Export, Deliver, Restart}
 use Rattle.cil_world.specs.declared.reply.Reply.{Reply}
+use Rattle.cil_world.specs.Events.{host_of}
 use Rattle.cil_world.specs.Reached.{Happens, NoRestart, IsExport, HasReached, Reached, delivered, installed}
 use Rattle.cil_world.specs.Replies.{counts}
 
@@ -31,7 +32,7 @@ module _ (events : List Event) (replies : List Reply) (i : ℕ) (event : Event) 
   not_restart : (j h : ℕ) → j < i → NoRestart events replies j (suc i) h → event ≡ Restart h → ⊥
   not_restart j h lt none e = none i lt (omega arith) (is_event ∙ ap Some e)
 
-  counted_here : (e : Event) → Happens events replies i e → (event ≡ e) × (counts reply ≡ true)
+  pub counted_here : (e : Event) → Happens events replies i e → (event ≡ e) × (counts reply ≡ true)
   counted_here e h = (one_of _ event e is_event h.event, ap counts (one_of _ reply h.reply is_reply h.answered) ∙ h.counted)
 
   -- what has reached a host by the next moment was brought by this event, or had reached it and no restart took it away
@@ -147,6 +148,14 @@ module _ (events : List Event) (replies : List Reply) (i : ℕ) (event : Event) 
   -- no other event brings anything
   pub nothing_else : ((h : ℕ) (text : List ℕ) → event ≡ Install h text → ⊥) → ((k h : ℕ) → event ≡ Deliver k h → ⊥) → (g : ℕ) (x : List ℕ) → Brings event g x → ⊥
   nothing_else never none g x b = other_brings g event x b never none
+
+  brings_host : (g : ℕ) (c : Event) (x : List ℕ) → Brings c g x → host_of c ≡ g
+  brings_host _ _ _ (by_install g x reads) = refl
+  brings_host _ _ _ (by_delivery k g d f x before export there) = refl
+
+  -- an event brings something to its own host alone
+  pub brings_there : (g : ℕ) (x : List ℕ) → Brings event g x → host_of event ≡ g
+  brings_there g x b = brings_host g event x b
 
   -- after a restart a host has nothing
   pub empties : (h : ℕ) → event ≡ Restart h → HasReached events replies (suc i) h []

@@ -7,6 +7,8 @@ use crate::event::Event;
 use crate::reply::Reply;
 use crate::world::World;
 use cil_base::NoMemory;
+use cil_host::modset::laws as bundles;
+use cil_host::sexpr::laws as texts;
 use std::alloc::Global;
 
 /// What each event is answered, where so many hosts begin without modules and the events happen one after the other. A host keeps up to 512 decisions in its cache.
@@ -21,6 +23,9 @@ pub fn run_world(
 ) -> Result<Vec<Reply>, NoMemory>
     ensures { IfOk result (λ replies. IsRun hosts events.now replies.items) }
 {
+    // What is known of texts and bundles: those that are right have no fault.
+    texts::never_both();
+    bundles::never_both();
     let mut world = World::new(alloc, hosts)?;
     let mut replies = Vec::with_capacity(alloc, events.len())?;
     for event in events {
