@@ -106,6 +106,7 @@ module _ (events : List Event) where
         before = r.before;
         export = export_moved i k r.event r.host a b r.before same r.export;
         reached = has_moved a b r.event r.host r.modules (agree_before r.event i a b (omega (arith, lt)) same) r.reached;
+        is_bundle = r.is_bundle;
         imports = r.imports;
       })
   answers_moved a b i (Deliver k h) old new reply same (inr m) =

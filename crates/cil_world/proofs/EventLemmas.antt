@@ -54,7 +54,7 @@ modules_counted modules short =
     let long = entries_long modules in
     omega (arith, short, all, behind, long)
 
-uncounted : (r : Reply) (b : Bool) → counts r ≡ b → b ≡ false → counts r ≡ true → ⊥
+pub uncounted : (r : Reply) (b : Bool) → counts r ≡ b → b ≡ false → counts r ≡ true → ⊥
 uncounted r b e f t = let g : true ≡ false = sym t ∙ e ∙ f in cc
 
 -- what an event leaves: the host of the next moment, and the answer
@@ -66,7 +66,7 @@ pub record IsStepped (events : List Event) (replies : List Reply) (i : ℕ) (eve
 module _ (events : List Event) (replies : List Reply) (i : ℕ) (event : Event) (reply : Reply) (is_event : slice_get events i ≡ Some event)
     (is_reply : slice_get replies i ≡ Some reply) where
   -- the modules are those of the next moment, and nothing happens to what is loaded
-  kept_loaded : (h : ℕ) (old new : State) → NoLoadNow events replies i event reply is_event is_reply h
+  pub kept_loaded : (h : ℕ) (old new : State) → NoLoadNow events replies i event reply is_event is_reply h
       → ((name : List ℕ) → NoSetNow events replies i event reply is_event is_reply h name) → (event ≡ Restart h → ⊥)
       → HasReached events replies (suc i) h new.modules → new.loaded ≡ old.loaded → IsHostAt events replies i h old → IsHostAt events replies (suc i) h new
   kept_loaded h old new never unset not has same was = record {
@@ -143,7 +143,7 @@ module _ (events : List Event) (replies : List Reply) (i : ℕ) (event : Event) 
   -- ---- a bundle is delivered
 
   -- an event that does not count changes no modules
-  lost_reached : (h : ℕ) (modules : List (List ℕ)) → counts reply ≡ false → (event ≡ Restart h → ⊥) → HasReached events replies i h modules
+  pub lost_reached : (h : ℕ) (modules : List (List ℕ)) → counts reply ≡ false → (event ≡ Restart h → ⊥) → HasReached events replies i h modules
       → HasReached events replies (suc i) h modules
   lost_reached h modules fails not has =
       stays events replies i event reply is_event is_reply h modules (λ x counted b. absurd (uncounted reply false fails refl counted)) not has
@@ -188,6 +188,7 @@ module _ (events : List Event) (replies : List Reply) (i : ℕ) (event : Event) 
           before = at.before;
           export = at.export;
           reached = at.reached;
+          is_bundle = subst (λ (b : List ℕ). IsBundle b at.modules) at.spelled (is_bundle k h s.bytes is at);
           imports = subst (λ (b : List ℕ). Imports old b reply new) at.spelled s.imports;
         }),
       )

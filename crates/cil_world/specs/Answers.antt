@@ -4,7 +4,7 @@ use Rattle.cil_host.specs.decide.declared.decision.Decision.{Decision}
 use Rattle.cil_host.specs.faults.declared.failure.Failure.{Failure}
 use Rattle.cil_host.specs.modset.declared.error.BundleError.{BundleError}
 use Rattle.cil_host.specs.modset.declared.set.Installed.{Installed as IsNew}
-use Rattle.cil_host.specs.modset.Bundle.{bundle}
+use Rattle.cil_host.specs.modset.Bundle.{IsBundle, bundle}
 use Rattle.cil_host.specs.modset.Changes.{IsImported, IsInstalled}
 use Rattle.cil_host.specs.sexpr.declared.fault.ReadError.{ReadError}
 use Rattle.cil_host.specs.declared.fault.QueryFault.{QueryFault}
@@ -86,6 +86,7 @@ module _ (events : List Event) (replies : List Reply) where
     pub before : event < i
     pub export : IsExport events replies k event host
     pub reached : HasReached events replies event host modules
+    pub is_bundle : IsBundle (bundle modules) modules
     pub imports : Imports old (bundle modules) reply new
 
   -- there is no such export before this event

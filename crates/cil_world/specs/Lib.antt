@@ -1,6 +1,7 @@
 pub mod Answers
 pub mod Events
 pub mod Hosts
+pub mod Laws
 pub mod Masks
 pub mod Reached
 pub mod Replies

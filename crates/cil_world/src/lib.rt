@@ -7,6 +7,7 @@
 #![tactic(auto)]
 
 mod event;
+pub mod laws;
 mod masks;
 mod reply;
 mod run;
