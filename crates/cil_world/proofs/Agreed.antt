@@ -1,7 +1,6 @@
 -- What is so at a moment depends on the replies before it alone.
 use Rattle.std.specs.Prelude.{MatchOption, Option, Some, None, slice_get}
-use Rattle.std.proofs.Common.{◌≡◌, ℕ, suc, ◌<◌, ◌≤◌, inl, inr, List, [], ◌∷◌, ◌++◌, length, refl, sym, ◌∙◌, arith, Bool}
-use Rattle.cil_base.specs.Lists.{Lists, text_cmp}
+use Rattle.std.proofs.Common.{◌≡◌, ℕ, ◌<◌, ◌≤◌, inl, inr, List, ◌++◌, length, sym, ◌∙◌, arith, Bool}
 use Rattle.cil_base.specs.Places.{get_in_front}
 use Rattle.cil_host.specs.Machine.{Accepted, State}
 use Rattle.cil_world.specs.declared.event.Event.{Event}

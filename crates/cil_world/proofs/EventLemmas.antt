@@ -1,6 +1,6 @@
 -- One event: the hosts of the next moment, the bundles that are kept then, and that the event is answered as it should be.
-use Rattle.std.specs.Prelude.{slice_get, Contains, ◌↔◌, Result, Ok, Err, OnOk}
-use Rattle.std.proofs.Common.{◌≡◌, ℕ, suc, ◌+◌, ◌<◌, ◌≤◌, ◌⊎◌, ◌^◌, Bool, true, false, List, [], ◌∷◌, ◌++◌, length, Option, Some, None, refl, sym, ap, subst, ◌∙◌, arith, inl, inr}
+use Rattle.std.specs.Prelude.{slice_get, Contains, ◌↔◌, Result, Ok, Err}
+use Rattle.std.proofs.Common.{◌≡◌, ℕ, suc, ◌<◌, ◌≤◌, ◌⊎◌, ◌^◌, Bool, true, false, List, [], ◌∷◌, ◌++◌, length, Some, refl, sym, ap, subst, ◌∙◌, arith, inl, inr}
 use Rattle.std.specs.List.{flat_map}
 use Rattle.std.proofs.lemmas.List.{length-append}
 use Rattle.cil_base.specs.Lists.{contains_cases, contains_none}
@@ -20,13 +20,13 @@ use Rattle.cil_host.specs.sexpr.declared.fault.ReadError.TheVariants as texts
 use Rattle.cil_host.specs.declared.fault.QueryFault.{QueryFault}
 use Rattle.cil_host.specs.declared.fault.QueryFault.TheVariants as query
 use Rattle.cil_host.specs.declared.host.Loaded.{Loaded as Told}
-use Rattle.cil_host.specs.Machine.{Accepted, State}
+use Rattle.cil_host.specs.Machine.{State}
 use Rattle.cil_host.specs.Refusal.{Loads as LoadsHost}
 use Rattle.cil_host.specs.Sets.{Sets as SetsHost}
 use Rattle.cil_world.specs.declared.event.Event.{Event}
 use Rattle.cil_world.specs.declared.event.Event.TheVariants.{Install, Export, Deliver, Load, Set, Ask, Restart}
 use Rattle.cil_world.specs.declared.reply.Reply.{Reply}
-use Rattle.cil_world.specs.declared.reply.Reply.TheVariants.{Done, Exported, Loaded, Query}
+use Rattle.cil_world.specs.declared.reply.Reply.TheVariants.{Done, Loaded, Query}
 use Rattle.cil_world.specs.Answers.{Answers, Exports, Imports, Installs, Misses, Receives, fresh}
 use Rattle.cil_world.specs.Events.{host_of, is_export}
 use Rattle.cil_world.specs.Hosts.{IsHostAt}
@@ -100,7 +100,7 @@ module _ (events : List Event) (replies : List Reply) (i : ℕ) (event : Event) 
       subst (HasReached events replies (suc i) h) (sym m.err)
       (stays events replies i event reply is_event is_reply h old
       (λ x counted b. let brought = installed_is events replies i event reply is_event is_reply h text is h x b in
-          absurd (law text fault.code fault.at (subst IsReadable (sym brought.0) brought.2) m.refusal))
+      absurd (law text fault.code fault.at (subst IsReadable (sym brought.0) brought.2) m.refusal))
       (λ e. let f : Install h text ≡ Restart h = sym is ∙ e in cc) has)
   install_reached h text old new law is (Err texts.NoMemory) m told has =
       subst (HasReached events replies (suc i) h) (sym m.err)
@@ -156,9 +156,9 @@ module _ (events : List Event) (replies : List Reply) (i : ℕ) (event : Event) 
     brings_modules x = (
       λ c. delivers events replies i event reply is_event is_reply k h at.event at.host x is at.before at.export ((at.reached.members x).0 c),
       λ b.
-        let d = (delivered_is events replies i event reply is_event is_reply k h is h x b).1 in
-        let one = export_one events replies k d.0 d.1 at.event at.host d.3 at.export in
-        (at.reached.members x).1 (subst (λ (m : ℕ). Reached events replies m at.host x) one.0 (subst (λ (n : ℕ). Reached events replies d.0 n x) one.1 d.4)),
+          let d = (delivered_is events replies i event reply is_event is_reply k h is h x b).1 in
+          let one = export_one events replies k d.0 d.1 at.event at.host d.3 at.export in
+          (at.reached.members x).1 (subst (λ (m : ℕ). Reached events replies m at.host x) one.0 (subst (λ (n : ℕ). Reached events replies d.0 n x) one.1 d.4)),
     )
 
     no_restart : (g : ℕ) → event ≡ Restart g → ⊥
@@ -179,8 +179,8 @@ module _ (events : List Event) (replies : List Reply) (i : ℕ) (event : Event) 
   deliver_step k h exports old new law is are (inl s) was =
       let at = are.each k s.bytes s.is_kept in (
         kept_loaded h old new (λ told e f. let g : Deliver k h ≡ Load h = sym is ∙ e in cc) (λ name value e f. let g : Deliver k h ≡ Set h name value = sym is ∙ e in cc)
-        (λ e. let g : Deliver k h ≡ Restart h = sym is ∙ e in cc)
-        (import_reached k h s.bytes is at old.modules new.modules law s.imports.result s.imports.modules s.imports.told was.reached) s.imports.loaded was,
+            (λ e. let g : Deliver k h ≡ Restart h = sym is ∙ e in cc)
+            (import_reached k h s.bytes is at old.modules new.modules law s.imports.result s.imports.modules s.imports.told was.reached) s.imports.loaded was,
         inl (record {
           event = at.event;
           host = at.host;
@@ -194,9 +194,9 @@ module _ (events : List Event) (replies : List Reply) (i : ℕ) (event : Event) 
       )
   deliver_step k h exports old new law is are (inr s) was = (
     subst (IsHostAt events replies (suc i) h) (sym s.same)
-    (kept_loaded h old old (λ told e f. let g : Deliver k h ≡ Load h = sym is ∙ e in cc) (λ name value e f. let g : Deliver k h ≡ Set h name value = sym is ∙ e in cc)
-    (λ e. let g : Deliver k h ≡ Restart h = sym is ∙ e in cc)
-    (lost_reached h old.modules (ap counts s.told) (λ e. let g : Deliver k h ≡ Restart h = sym is ∙ e in cc) was.reached) refl was),
+        (kept_loaded h old old (λ told e f. let g : Deliver k h ≡ Load h = sym is ∙ e in cc) (λ name value e f. let g : Deliver k h ≡ Set h name value = sym is ∙ e in cc)
+        (λ e. let g : Deliver k h ≡ Restart h = sym is ∙ e in cc)
+        (lost_reached h old.modules (ap counts s.told) (λ e. let g : Deliver k h ≡ Restart h = sym is ∙ e in cc) was.reached) refl was),
     inr (record { none = λ e g lt x. let found = are.all k e g lt x in s.none found.0 found.1; told = s.told; same = s.same }),
   )
 
@@ -257,7 +257,7 @@ module _ (events : List Event) (replies : List Reply) (i : ℕ) (event : Event) 
       → Keeps old exports reply kept ⊎ LeavesOut exports reply kept → AreKept events replies (suc i) kept × Exports old reply
   export_kept h exports kept old is are was (inl k) = (
     subst (AreKept events replies (suc i)) (sym k.kept_is)
-    (kept_bundle events replies i event reply is_event is_reply exports h (length (bundle old.modules)) old.modules is k.told k.counted was.reached are),
+        (kept_bundle events replies i event reply is_event is_reply exports h (length (bundle old.modules)) old.modules is k.told k.counted was.reached are),
     inl k.told,
   )
   export_kept h exports kept old is are was (inr k) = (

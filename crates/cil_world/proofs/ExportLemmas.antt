@@ -1,7 +1,7 @@
 -- The bundles that are kept, and the numbers of exports.
 use Rattle.std.specs.Prelude.{slice_get}
 use Rattle.std.specs.List.{count_by}
-use Rattle.std.proofs.Common.{◌≡◌, ℕ, zero, suc, ◌+◌, ◌<◌, ◌≤◌, ◌^◌, Bool, true, false, List, [], ◌∷◌, ◌++◌, length, take, Option, Some, None, refl, sym, ap, subst, ◌∙◌, arith, inl, inr, get_or}
+use Rattle.std.proofs.Common.{◌≡◌, ℕ, zero, suc, ◌+◌, ◌<◌, ◌≤◌, ◌^◌, Bool, true, false, List, [], ◌∷◌, ◌++◌, length, take, Option, Some, None, sym, ap, subst, ◌∙◌, arith, inl, inr}
 use Rattle.std.proofs.lemmas.Bool.{cases_order}
 use Rattle.std.proofs.lemmas.List.Sums.{count_by_more_no, count_by_more_yes}
 use Rattle.cil_base.specs.Counts.{count_cons}
@@ -46,8 +46,8 @@ module _ (events : List Event) (replies : List Reply) where
   pub export_one : (k e g d f : ℕ) → IsExport events replies k e g → IsExport events replies k d f → (e ≡ d) × (g ≡ f)
   export_one k e g d f x y = elim (cases_order e d) [
     | inl same ↦
-      let one = one_of _ (Export g) (Export f) x.happens.event (subst (λ (n : ℕ). slice_get events n ≡ Some (Export f)) (sym same) y.happens.event) in
-      (same, cc)
+        let one = one_of _ (Export g) (Export f) x.happens.event (subst (λ (n : ℕ). slice_get events n ≡ Some (Export f)) (sym same) y.happens.event) in
+        (same, cc)
     | inr apart ↦ elim apart [
       | inl less ↦ let more = passed k e g d less x in let numbered = y.numbered in absurd (omega (arith, more, numbered))
       | inr less ↦ let more = passed k d f e less y in let numbered = x.numbered in absurd (omega (arith, more, numbered))
@@ -179,8 +179,10 @@ module _ (events : List Event) (replies : List Reply) (i : ℕ) (event : Event) 
     all = λ k e g lt x. elim (earlier e i lt) [
       | inl before ↦ found_before exports (Some (bundle modules)) (ap is_export is) are k e g before x
       | inr now ↦
-        let here = export_now k e g now x in
-        (bundle modules, subst (λ (n : ℕ). slice_get (exports ++ Some (bundle modules) ∷ []) n ≡ Some (Some (bundle modules))) (are.numbers ∙ here.2)
-            (get_last exports (Some (bundle modules))))
+          let here = export_now k e g now x in (
+            bundle modules,
+            subst (λ (n : ℕ). slice_get (exports ++ Some (bundle modules) ∷ []) n ≡ Some (Some (bundle modules))) (are.numbers ∙ here.2)
+                (get_last exports (Some (bundle modules))),
+          )
     ];
   }

@@ -1,6 +1,6 @@
 -- The laws of runs.
-use Rattle.std.specs.Prelude.{slice_get, Contains, ◌↔◌, Result, Ok, Err}
-use Rattle.std.proofs.Common.{◌≡◌, ℕ, zero, suc, ◌<◌, ◌≤◌, ◌⊎◌, Bool, true, false, List, [], length, Some, refl, sym, ap, subst, ◌∙◌, arith, inl, inr}
+use Rattle.std.specs.Prelude.{slice_get, ◌↔◌, Result, Ok, Err}
+use Rattle.std.proofs.Common.{◌≡◌, ℕ, true, false, List, [], length, Some, refl, sym, ap, subst, ◌∙◌, arith, inl, inr}
 use Rattle.std.proofs.lemmas.Bool.{cases_lt}
 use Rattle.std.proofs.lemmas.Cmp.{nat_list_cmp_total}
 use Rattle.cil_base.specs.Decided.{same_number}
@@ -18,7 +18,6 @@ use Rattle.cil_host.specs.modset.Laws.{NeverBoth as NoBadBundle}
 use Rattle.cil_host.specs.sexpr.declared.fault.ReadError.{ReadError}
 use Rattle.cil_host.specs.sexpr.declared.fault.ReadError.TheVariants as texts
 use Rattle.cil_host.specs.tables.CompileRefusal.{CompileFails}
-use Rattle.cil_host.specs.tables.Faults.{ArePolicyFaults}
 use Rattle.cil_host.specs.tables.Laws.{HasOneListOfFaults, HasOneTable}
 use Rattle.cil_host.specs.declared.fault.QueryFault.{QueryFault}
 use Rattle.cil_host.specs.declared.host.Loaded.{Loaded as Told}
@@ -27,10 +26,9 @@ use Rattle.cil_host.specs.Refusal.{IsTold, Loads as LoadsHost, told_by}
 use Rattle.cil_world.specs.declared.event.Event.{Event}
 use Rattle.cil_world.specs.declared.event.Event.TheVariants.{Install, Export, Deliver, Load, Set, Ask, Restart}
 use Rattle.cil_world.specs.declared.reply.Reply.{Reply}
-use Rattle.cil_world.specs.declared.reply.Reply.TheVariants.{BadBundle, Done, Faults, Loaded, NoMemory, NoSuch}
-use Rattle.cil_world.specs.Answers.{Answers, Asks, Loads}
+use Rattle.cil_world.specs.declared.reply.Reply.TheVariants.{BadBundle, Faults, Loaded, NoSuch}
+use Rattle.cil_world.specs.Answers.{Answers, Asks}
 use Rattle.cil_world.specs.Events.{host_of}
-use Rattle.cil_world.specs.Hosts.{IsHostAt}
 use Rattle.cil_world.specs.Laws.{LoadAlike, NoneRefused, NothingChanges}
 use Rattle.cil_world.specs.Reached.{HasReached, Reached}
 use Rattle.cil_world.specs.Replies.{counts, of_import, of_install, of_load, of_set}
@@ -98,8 +96,8 @@ pub nothing_changes : NothingChanges
 nothing_changes hosts events replies run i event reply at told fails g host lt was = elim (same_number (host_of event) g) [
   | inr apart ↦ other_stays events replies i event reply at told g host apart was
   | inl here ↦
-    kept_loaded events replies i event reply at told g host host (λ t e f. uncounted reply false fails refl (ap counts f)) (λ name value e f. uncounted reply false fails refl (ap counts f))
-    (unrestarted here) (lost_reached events replies i event reply at told g host.modules fails (unrestarted here) was.reached) refl was
+      kept_loaded events replies i event reply at told g host host (λ t e f. uncounted reply false fails refl (ap counts f)) (λ name value e f. uncounted reply false fails refl (ap counts f))
+      (unrestarted here) (lost_reached events replies i event reply at told g host.modules fails (unrestarted here) was.reached) refl was
 ]
   where
     unrestarted : host_of event ≡ g → event ≡ Restart g → ⊥

@@ -1,6 +1,5 @@
 -- The names of a mask, bit by bit.
-use Rattle.std.specs.Prelude.{codes, Contains, Option, MatchOption, None, Some}
-use denote.Ref.{Bor}
+use Rattle.std.specs.Prelude.{Contains}
 use Rattle.std.proofs.Common.{◌≡◌, ℕ, zero, suc, ◌+◌, ◌<◌, ◌≤◌, inl, inr, List, [], ◌∷◌, ◌++◌, refl, sym, ◌∙◌, ap, subst, arith, Bool, true, false}
 use Rattle.std.specs.List.{AllByRecursion}
 use Rattle.std.specs.List.Sorted.{IsStrictlySortedBy}

@@ -1,7 +1,7 @@
 -- What a host has loaded one moment later.
-use Rattle.std.specs.Prelude.{slice_get, Contains, ◌↔◌, MatchOption}
-use Rattle.std.proofs.Common.{◌≡◌, ℕ, suc, ◌<◌, ◌≤◌, ◌⊎◌, Bool, true, false, List, [], ◌∷◌, length, Option, Some, None, refl, sym, ap, subst, ◌∙◌, arith, inl, inr}
-use Rattle.cil_base.specs.Decided.{Decided, same_list, same_number}
+use Rattle.std.specs.Prelude.{slice_get, Contains, MatchOption}
+use Rattle.std.proofs.Common.{◌≡◌, ℕ, suc, Bool, true, List, Option, Some, None, sym, ap, subst, ◌∙◌, arith, inl, inr}
+use Rattle.cil_base.specs.Decided.{same_list, same_number}
 use Rattle.cil_base.specs.Lists.{Lists, text_cmp}
 use Rattle.cil_host.specs.declared.host.Loaded.{Loaded as Told}
 use Rattle.cil_host.specs.Machine.{Accepted, CanLoad}
@@ -11,7 +11,7 @@ use Rattle.cil_world.specs.declared.event.Event.TheVariants.{Load, Restart, Set}
 use Rattle.cil_world.specs.declared.reply.Reply.{Reply}
 use Rattle.cil_world.specs.declared.reply.Reply.TheVariants.{Done, Loaded}
 use Rattle.cil_world.specs.Hosts.{IsLastLoad, IsLoad, IsLoadedAt, IsOn, IsSet, NoSet, by_default, by_setting}
-use Rattle.cil_world.specs.Reached.{HasReached, NoRestart}
+use Rattle.cil_world.specs.Reached.{HasReached}
 use Rattle.cil_world.proofs.NextMoment.{earlier, one_of, unrestarted_on}
 
 module _ (events : List Event) (replies : List Reply) (i : ℕ) (event : Event) (reply : Reply) (is_event : slice_get events i ≡ Some event)
@@ -141,7 +141,7 @@ module _ (events : List Event) (replies : List Reply) (i : ℕ) (event : Event) 
     is_last = last_on h was.load (λ told e f. let g : Set h name value ≡ Load h = sym is ∙ e in cc) (λ e. let g : Set h name value ≡ Restart h = sym is ∙ e in cc) was.is_last;
     reached = subst (λ (ms : List (List ℕ)). HasReached events replies was.load h ms) (sym same_modules) was.reached;
     can_load =
-      subst (λ (ms : List (List ℕ)). CanLoad ms after.reasons) (sym same_modules) (subst (λ r. CanLoad before.modules r) (sym same_reasons) was.can_load);
+        subst (λ (ms : List (List ℕ)). CanLoad ms after.reasons) (sym same_modules) (subst (λ r. CanLoad before.modules r) (sym same_reasons) was.can_load);
     on = subst (λ (ms : List (List ℕ)). Lists text_cmp (IsOn events replies ms was.load (suc i) h) after.on) (sym same_modules)
         (record { rising = set.rising; members = λ other. (λ c. there other c, λ o. back other o) });
   }

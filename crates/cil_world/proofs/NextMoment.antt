@@ -1,13 +1,13 @@
 -- What has reached a host one moment later.
 use Rattle.std.specs.Prelude.{slice_get, Contains, ◌↔◌}
-use Rattle.std.proofs.Common.{◌≡◌, ℕ, suc, ◌<◌, ◌≤◌, ◌⊎◌, Bool, true, false, List, [], ◌∷◌, ◌++◌, length, Option, Some, refl, sym, ap, subst, ◌∙◌, arith, inl, inr}
+use Rattle.std.proofs.Common.{◌≡◌, ℕ, suc, ◌<◌, ◌⊎◌, true, List, [], ◌∷◌, Option, Some, refl, sym, ap, subst, ◌∙◌, arith, inl, inr}
 use Rattle.std.specs.List.Sorted.{IsStrictlySortedBy}
 use Rattle.cil_base.specs.Lists.{contains_cases, contains_here, contains_none}
 use Rattle.cil_base.specs.Places.{some_same}
-use Rattle.cil_host.specs.modset.Modules.{AreModules, IsUnion}
+use Rattle.cil_host.specs.modset.Modules.{IsUnion}
 use Rattle.cil_host.specs.sexpr.Text.{IsReadable}
 use Rattle.cil_world.specs.declared.event.Event.{Event}
-use Rattle.cil_world.specs.declared.event.Event.TheVariants.{Install, Export, Deliver, Restart}
+use Rattle.cil_world.specs.declared.event.Event.TheVariants.{Install, Deliver, Restart}
 use Rattle.cil_world.specs.declared.reply.Reply.{Reply}
 use Rattle.cil_world.specs.Events.{host_of}
 use Rattle.cil_world.specs.Reached.{Happens, NoRestart, IsExport, HasReached, Reached, delivered, installed}
@@ -42,15 +42,15 @@ module _ (events : List Event) (replies : List Reply) (i : ℕ) (event : Event) 
       elim (earlier j i lt) [
         | inl before ↦ inr (installed i h j x before happens reads (still j h none), not_restart j h before none)
         | inr now ↦
-          let here = counted_here (Install h x) (subst (λ (m : ℕ). Happens events replies m (Install h x)) now happens) in
-          inl (here.1, subst (λ (e : Event). Brings e h x) (sym here.0) (by_install h x reads))
+            let here = counted_here (Install h x) (subst (λ (m : ℕ). Happens events replies m (Install h x)) now happens) in
+            inl (here.1, subst (λ (e : Event). Brings e h x) (sym here.0) (by_install h x reads))
       ]
   next_is _ _ (delivered i2 h j k e g x lt happens none before export there) =
       elim (earlier j i lt) [
         | inl sooner ↦ inr (delivered i h j k e g x sooner happens (still j h none) before export there, not_restart j h sooner none)
         | inr now ↦
-          let here = counted_here (Deliver k h) (subst (λ (m : ℕ). Happens events replies m (Deliver k h)) now happens) in
-          inl (here.1, subst (λ (d : Event). Brings d h x) (sym here.0) (by_delivery k h e g x (omega (arith, before, now)) export there))
+            let here = counted_here (Deliver k h) (subst (λ (m : ℕ). Happens events replies m (Deliver k h)) now happens) in
+            inl (here.1, subst (λ (d : Event). Brings d h x) (sym here.0) (by_delivery k h e g x (omega (arith, before, now)) export there))
       ]
 
   happens_now : (e : Event) → event ≡ e → counts reply ≡ true → Happens events replies i e

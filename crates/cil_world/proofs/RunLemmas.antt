@@ -1,6 +1,6 @@
 -- A run, event by event.
-use Rattle.std.specs.Prelude.{slice_get, slice_set, slice_index_or, Contains}
-use Rattle.std.proofs.Common.{◌≡◌, ℕ, suc, ◌+◌, ◌<◌, ◌≤◌, Bool, true, false, if◌then◌else◌, List, [], ◌∷◌, ◌++◌, length, Option, Some, None, refl, sym, ap, subst, ◌∙◌, arith, inl, inr}
+use Rattle.std.specs.Prelude.{slice_get}
+use Rattle.std.proofs.Common.{◌≡◌, ℕ, suc, ◌<◌, Bool, true, false, if◌then◌else◌, List, [], ◌∷◌, ◌++◌, length, Some, None, refl, sym, ap, subst, ◌∙◌, arith, inl, inr}
 use Rattle.std.specs.List.Sorted.{IsStrictlySortedBy}
 use Rattle.std.proofs.lemmas.List.{get_or-set_other, length-set}
 use Rattle.cil_base.specs.Decided.{same_number}
@@ -14,9 +14,9 @@ use Rattle.cil_world.specs.declared.reply.Reply.{Reply}
 use Rattle.cil_world.specs.Answers.{fresh}
 use Rattle.cil_world.specs.Events.{host_of, is_export}
 use Rattle.cil_world.specs.Hosts.{IsHostAt}
-use Rattle.cil_world.specs.Reached.{HasReached, Reached, delivered, installed}
+use Rattle.cil_world.specs.Reached.{Reached, delivered, installed}
 use Rattle.cil_world.specs.Replies.{counts}
-use Rattle.cil_world.specs.Run.{IsAnswered, IsAnsweredThere, IsRun}
+use Rattle.cil_world.specs.Run.{IsAnswered, IsRun}
 use Rattle.cil_world.specs.Steps.{IsDone, IsNext, IsSkipped, Kept, host_at}
 use Rattle.cil_world.proofs.Agreed.{Agree, agree_before, agree_more, agree_turned, answers_moved, host_moved}
 use Rattle.cil_world.proofs.EventLemmas.{IsStepped, one_step, other_stays}
@@ -105,12 +105,12 @@ module _ (hosts : ℕ) (events : List Event) (replies : List Reply) (states afte
       → IsAnswered hosts events all j e r
   all_answered now j e r there is = elim (at_or_last replies reply r j is) [
     | inl old ↦
-      let within = in_range replies j r old in
-      answered_moved hosts events replies all j e r (agree_before (suc j) i replies all (omega (arith, within)) onward) (run.answered j e r there old)
+        let within = in_range replies j r old in
+        answered_moved hosts events replies all j e r (agree_before (suc j) i replies all (omega (arith, within)) onward) (run.answered j e r there old)
     | inr new ↦
-      let same : event ≡ e = one_of _ event e at (subst (λ (n : ℕ). slice_get events n ≡ Some e) new.0 there) in
-      subst (λ (n : ℕ). IsAnswered hosts events all n e r) (sym new.0)
-      (subst (λ (d : Event). IsAnswered hosts events all i d r) same (subst (λ (s : Reply). IsAnswered hosts events all i event s) new.1 now))
+        let same : event ≡ e = one_of _ event e at (subst (λ (n : ℕ). slice_get events n ≡ Some e) new.0 there) in
+        subst (λ (n : ℕ). IsAnswered hosts events all n e r) (sym new.0)
+        (subst (λ (d : Event). IsAnswered hosts events all i d r) same (subst (λ (s : Reply). IsAnswered hosts events all i event s) new.1 now))
   ]
 
   made : length after ≡ hosts → ((h : ℕ) → h < hosts → IsHostAt events all (suc i) h (host_at after h)) → AreKept events all (suc i) kept → IsAnswered hosts events all i event reply
@@ -143,7 +143,7 @@ module _ (hosts : ℕ) (events : List Event) (replies : List Reply) (states afte
       each g lt = elim (same_number g here) [
         | inl e ↦ subst (λ (n : ℕ). IsHostAt events all (suc i) n (host_at after n)) (sym e) stepped.host
         | inr apart ↦ subst (IsHostAt events all (suc i) g) (sym (unchanged g apart))
-          (other_stays events all i event reply at told g (host_at states g) (λ e. apart (sym e)) (host_before g lt))
+            (other_stays events all i event reply at told g (host_at states g) (λ e. apart (sym e)) (host_before g lt))
       ]
 
   -- ---- at a host that is not there

@@ -1,5 +1,5 @@
 -- The model host of a number at a moment: what has reached it, its last accepted load, and how the booleans of that policy are set. This project's profile.
-use Rattle.std.specs.Prelude.{◌≡◌, ℕ, ◌<◌, Bool, true, List, Some, None, MatchOption, slice_get}
+use Rattle.std.specs.Prelude.{◌≡◌, ℕ, ◌<◌, Bool, true, List, Some, MatchOption, slice_get}
 use Rattle.cil_base.specs.Lists.{Lists, text_cmp}
 use Rattle.cil_host.specs.declared.host.Loaded.{Loaded as Told}
 use Rattle.cil_host.specs.Machine.{Accepted, CanLoad, State}

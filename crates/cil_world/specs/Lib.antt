@@ -7,3 +7,4 @@ pub mod Reached
 pub mod Replies
 pub mod Run
 pub mod Steps
+pub use Rattle.cil_host.specs as host

@@ -1,5 +1,5 @@
 -- What a host answers, as the reply of an event.
-use Rattle.std.specs.Prelude.{ℕ, Bool, true, false, List, length, Result, Ok, Err}
+use Rattle.std.specs.Prelude.{ℕ, Bool, true, false, Result, Ok, Err}
 use Rattle.cil_host.specs.faults.declared.failure.Failure.{Failure}
 use Rattle.cil_host.specs.faults.declared.failure.Failure.TheVariants as failures
 use Rattle.cil_host.specs.modset.declared.error.BundleError.{BundleError}

@@ -1,5 +1,5 @@
 -- What the code knows of hosts and of the bundles that it keeps: words of inner functions.
-use Rattle.std.specs.Prelude.{◌≡◌, ◌++◌, ◌⊎◌, ◌<◌, ◌≤◌, ◌^◌, ℕ, Bool, List, [], ◌∷◌, Option, Some, None, length, if◌then◌else◌, slice_get, slice_set, slice_index_or}
+use Rattle.std.specs.Prelude.{◌≡◌, ◌++◌, ◌⊎◌, ◌<◌, ◌≤◌, ◌^◌, ℕ, List, [], ◌∷◌, Option, Some, None, length, if◌then◌else◌, slice_get, slice_set, slice_index_or}
 use Rattle.cil_host.specs.modset.Bundle.{bundle}
 use Rattle.cil_host.specs.Machine.{State}
 use Rattle.cil_world.specs.declared.event.Event.{Event}

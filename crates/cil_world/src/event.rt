@@ -1,38 +1,6 @@
 //! What may happen to hosts.
 
-use std::marker::Model;
-
-/// A text, or a word of a request, where it is kept. Contracts see it as its bytes.
-#[derive(Debug, Drop)]
-pub struct Text<'a> {
-    bytes: &'a [u8],
-}
-
-impl<'a> Model for Text<'a> {
-    ghost use Rattle.std.specs.Prelude.{List, ℕ};
-
-    ghost Value = { List ℕ };
-
-    ghost view = { λ a. a.bytes.now };
-}
-
-impl<'a> Text<'a> {
-    ghost use Rattle.std.specs.Prelude.{◌≡◌};
-
-    /// These bytes, without a copy.
-    pub fn of(bytes: &'a [u8]) -> Text<'a>
-        ensures { result ≡ bytes.now }
-    {
-        Text { bytes }
-    }
-
-    /// The bytes.
-    pub fn as_slice(&self) -> &'a [u8]
-        ensures { result.now ≡ self.now }
-    {
-        self.bytes
-    }
-}
+use cil_host::Excerpt;
 
 /// What may happen. Hosts are counted from 0, and so are exports, in the order of their events.
 #[derive(Debug, Drop)]
@@ -42,7 +10,7 @@ pub enum Event<'a> {
         /// The number of the host.
         host: u32,
         /// The text.
-        text: Text<'a>,
+        text: Excerpt<'a>,
     },
     /// The modules of a host are put into a bundle, which is kept for deliveries. The event has the next export number, even if it fails.
     Export {
@@ -66,7 +34,7 @@ pub enum Event<'a> {
         /// The number of the host.
         host: u32,
         /// The qualified name of the boolean.
-        name: Text<'a>,
+        name: Excerpt<'a>,
         /// Whether it is on from then on.
         value: bool,
     },
@@ -75,11 +43,11 @@ pub enum Event<'a> {
         /// The number of the host.
         host: u32,
         /// The context of the source.
-        source: Text<'a>,
+        source: Excerpt<'a>,
         /// The context of the target.
-        target: Text<'a>,
+        target: Excerpt<'a>,
         /// The name of the class.
-        class: Text<'a>,
+        class: Excerpt<'a>,
     },
     /// A host begins anew: without modules, and without a policy.
     Restart {

@@ -16,6 +16,8 @@ mod steps;
 mod tests;
 mod world;
 
-pub use event::{Event, Text};
+pub use cil_host as host;
+pub use cil_host::Excerpt;
+pub use event::Event;
 pub use reply::Reply;
 pub use run::run_world;

@@ -16,11 +16,7 @@ use std::alloc::Global;
 /// All bundles are kept, since any may still be delivered.
 ///
 /// Error: out of memory for the hosts, for the list of replies or for the list of exports.
-pub fn run_world(
-    alloc: Global,
-    hosts: u32,
-    events: &[Event<'_>],
-) -> Result<Vec<Reply>, NoMemory>
+pub fn run_world(alloc: Global, hosts: u32, events: &[Event<'_>]) -> Result<Vec<Reply>, NoMemory>
     ensures { IfOk result (λ replies. IsRun hosts events.now replies.items) }
 {
     // What is known of texts and bundles: those that are right have no fault.

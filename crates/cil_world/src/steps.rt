@@ -41,9 +41,13 @@ pub(crate) fn step(
             target,
             class,
             ..
-        } => Ok(
-            ask(alloc, host, source.as_slice(), target.as_slice(), class.as_slice()),
-        ),
+        } => Ok(ask(
+            alloc,
+            host,
+            source.as_slice(),
+            target.as_slice(),
+            class.as_slice(),
+        )),
         Event::Restart { .. } => {
             host.restart(alloc);
             Ok(Reply::Done)
@@ -74,12 +78,7 @@ fn export(
 }
 
 /// Imports the bundle of an export, if there is one.
-fn deliver(
-    alloc: Global,
-    host: &mut Host<Hashers>,
-    exports: &[Option<Bytes>],
-    export: u64,
-) -> Reply
+fn deliver(alloc: Global, host: &mut Host<Hashers>, exports: &[Option<Bytes>], export: u64) -> Reply
     ensures { Hands exports.now export host.old result host.new ⊎ Lacks exports.now export host.old result host.new }
 {
     match bundle_of(exports, export) {
@@ -100,13 +99,7 @@ fn bundle_of(exports: &[Option<Bytes>], export: u64) -> Option<&[u8]>
 }
 
 /// Asks for a decision, and spells it by the names of permissions.
-fn ask(
-    alloc: Global,
-    host: &mut Host<Hashers>,
-    source: &[u8],
-    target: &[u8],
-    class: &[u8],
-) -> Reply
+fn ask(alloc: Global, host: &mut Host<Hashers>, source: &[u8], target: &[u8], class: &[u8]) -> Reply
     ensures answer { Asks host.old source.now target.now class.now result }
     ensures stays { host.new ≡ host.old }
 {

@@ -1,6 +1,6 @@
 //! Worlds worked by hand: hosts that exchange bundles, events that name nothing, booleans and queries, and a growth that is refused.
 
-use crate::{Event, Reply, Text, run_world};
+use crate::{Event, Excerpt, Reply, run_world};
 use cil_base::Bytes;
 use cil_host::QueryFault;
 use cil_host::modset::Installed;
@@ -36,7 +36,9 @@ fn is(reply: &Reply, want: Want) -> bool {
         Want::Added(wanted) => has_added(reply, wanted),
         Want::Loaded(wanted) => has_loaded(reply, wanted),
         Want::Done => is_done(reply),
-        Want::Decided(allowed, auditallow, auditdeny) => decides(reply, allowed, auditallow, auditdeny),
+        Want::Decided(allowed, auditallow, auditdeny) => decides(
+            reply, allowed, auditallow, auditdeny,
+        ),
         Want::Unreadable(at) => is_unreadable(reply, at),
         Want::Faults(count) => has_faults(reply, count),
         Want::Query(fault) => declines(reply, fault),
@@ -169,14 +171,14 @@ fn first_wrong(replies: &[Reply], wanted: &[Want]) -> usize {
 fn install(host: u32, text: &[u8]) -> Event<'_> {
     Event::Install {
         host,
-        text: Text::of(text),
+        text: Excerpt::of(text),
     }
 }
 
 fn set<'a>(host: u32, name: &'a [u8], value: bool) -> Event<'a> {
     Event::Set {
         host,
-        name: Text::of(name),
+        name: Excerpt::of(name),
         value,
     }
 }
@@ -185,13 +187,14 @@ fn set<'a>(host: u32, name: &'a [u8], value: bool) -> Event<'a> {
 fn ask<'a>(host: u32, source: &'a [u8], target: &'a [u8]) -> Event<'a> {
     Event::Ask {
         host,
-        source: Text::of(source),
-        target: Text::of(target),
-        class: Text::of(b"file"),
+        source: Excerpt::of(source),
+        target: Excerpt::of(target),
+        class: Excerpt::of(b"file"),
     }
 }
 
 const TYPE_A: &[u8] = b"(type a)";
+
 const TYPE_B: &[u8] = b"(type b)";
 
 /// Three hosts: the second gets what the first exported, twice; the third loses what it had; the first and the second hold the same in the end.
@@ -293,7 +296,9 @@ fn exports_are_delivered_by_their_numbers(rt: HostRuntime) -> Result<(), Fail> {
 }
 
 /// 123 bytes: a file of type b may be read by a.
-const FIRST: &[u8] = b"(class file (open read))(user u)(role r)(type a)(type b)(userrole u r)(roletype r a)(roletype r b)(allow a b (file (read)))";
+const FIRST: &[u8] =
+    b"(class file (open read))(user u)(role r)(type a)(type b)(userrole u r)(roletype r a)(roletype r b)(allow a b (file (read)))";
+
 const BOOLEAN: &[u8] = b"(boolean bo false)(booleanif bo (true (allow b a (file (open)))))";
 
 /// Booleans are set, are as by default after a load, and are gone after a restart. A load with faults leaves the policy.
@@ -308,7 +313,10 @@ fn queries_are_answered_by_the_last_load(rt: HostRuntime) -> Result<(), Fail> {
         ask(0, b"u:r:b", b"u:r:a"),
         ask(0, b"u:r:a", b"u:r:b"),
         set(0, b"no", true),
-        install(0, b"(auditallow a b (file (read)))(dontaudit a b (file (open)))"),
+        install(
+            0,
+            b"(auditallow a b (file (read)))(dontaudit a b (file (open)))",
+        ),
         ask(0, b"u:r:a", b"u:r:b"),
         Event::Load { host: 0 },
         ask(0, b"u:r:b", b"u:r:a"),

@@ -1,5 +1,5 @@
 use Rattle.std.specs.Prelude.{Some, slice_get}
-use Rattle.std.proofs.Common.{◌≡◌, ◌+◌, ◌∷◌, ◌++◌, ◌∙◌, ℕ, List, [], length, ap, arith, refl, subst, sym}
+use Rattle.std.proofs.Common.{◌≡◌, ◌+◌, ◌∙◌, ℕ, List, [], length, ap, subst, sym}
 use Rattle.cil_base.specs.Places.{longer, there_as}
 use Rattle.cil_world.specs.declared.reply.Reply.{Reply}
 use Rattle.cil_world.specs.Steps.{Kept}
@@ -21,7 +21,7 @@ loop-event-preserved c =
     let run = c.loop-event.invariant.0 in
     let count = c.loop-event.invariant.1 in
     let at = subst (λ (n : ℕ). slice_get c.args.events.now n ≡ Some c.event-item.result) (sym count)
-        (there_as c.args.events.now c.loop-event.event-index c.event-item.result c.loop-event-test.true c.event-item.is) in
+    (there_as c.args.events.now c.loop-event.event-index c.event-item.result c.loop-event-test.true c.event-item.is) in
     let more = c.in_ok-push.ensures.items in (
       subst (λ (r : List Reply). IsRunUpTo c.args.hosts c.args.events.now r c.answer.new.self.hosts.items c.answer.new.self.exports.items) (sym more)
           (one_more_event c.args.hosts c.args.events.now c.loop-event.replies.items c.loop-event.world.hosts.items c.answer.new.self.hosts.items

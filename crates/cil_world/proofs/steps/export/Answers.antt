@@ -1,4 +1,4 @@
-use Rattle.std.proofs.Common.{◌≡◌, ◌<◌, ◌^◌, ◌∙◌, ◌++◌, ◌∷◌, ℕ, List, [], Some, arith, ap, inl, length, subst, sym}
+use Rattle.std.proofs.Common.{◌<◌, ◌^◌, ◌∙◌, ◌++◌, ◌∷◌, ℕ, List, [], Some, arith, ap, inl, length, subst}
 use Rattle.cil_world.specs.declared.reply.Reply.TheVariants.{Exported}
 use Rattle.cil_world.proofs.steps.export.Goals as goal
 
