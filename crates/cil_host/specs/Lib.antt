@@ -9,3 +9,6 @@ pub mod Settings
 pub mod decide
 pub mod tables
 pub mod optionals
+pub mod faults
+pub mod sexpr
+pub mod modset

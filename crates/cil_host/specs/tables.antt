@@ -1,3 +1,4 @@
 -- What crates above take of cil_tables.
 pub use Rattle.cil_table_bytes.specs.tables.CompileAnswer
 pub use Rattle.cil_table_bytes.specs.tables.CompileRefusal
+pub use Rattle.cil_table_bytes.specs.tables.Laws

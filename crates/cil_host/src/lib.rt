@@ -11,6 +11,10 @@ mod listing;
 
 pub use cil_avc as avc;
 pub use cil_avc::decide;
+pub use cil_faults as faults;
+pub use cil_modset as modset;
+pub use cil_sexpr as sexpr;
+pub use cil_syntax::Excerpt;
 pub use cil_table_bytes::{optionals, tables};
 pub use fault::{HostError, QueryFault};
 pub use host::{Host, Loaded};
