@@ -3,14 +3,14 @@ use Rattle.std.proofs.Common.{◌≡◌, ℕ, ◌+◌, ◌<◌, true, false, Lis
 use Rattle.std.specs.Prelude.{None}
 use Rattle.std.specs.Global.{Vec}
 use Rattle.std.proofs.lemmas.List.{append-nil, drop-drop, length-append, length-map, take_more}
-use Rattle.cil_names.specs.syntax.Forms.{is_class_list, word_in_front}
-use Rattle.cil_names.specs.syntax.Said.{all_said, word_in}
-use Rattle.cil_names.specs.syntax.Scopes.{ScopedWord}
-use Rattle.cil_names.specs.syntax.Terms.{Leaf, cons}
-use Rattle.cil_names.specs.syntax.LookedUp.{LookedUp}
-use Rattle.cil_names.specs.syntax.Op.{Op}
-use Rattle.cil_names.specs.syntax.Term as rust
-use Rattle.cil_names.specs.syntax.Word.{Word as RustWord}
+use Rattle.cil_syntax.specs.Forms.{is_class_list, word_in_front}
+use Rattle.cil_syntax.specs.Said.{all_said, word_in}
+use Rattle.cil_syntax.specs.Scopes.{ScopedWord}
+use Rattle.cil_syntax.specs.Terms.{Leaf, cons}
+use Rattle.cil_syntax.specs.declared.term.LookedUp.{LookedUp}
+use Rattle.cil_syntax.specs.declared.term.Op.{Op}
+use Rattle.cil_syntax.specs.declared.term.Term as rust
+use Rattle.cil_syntax.specs.declared.term.Word.{Word as RustWord}
 use Rattle.cil_names.specs.macros.Item.{all_words_in}
 use Rattle.cil_names.specs.Resolves.{Permission as APermission, Word as AWord, words_of_class}
 use Rattle.cil_names.specs.Unresolved.{terms_with}

@@ -5,19 +5,19 @@ use Rattle.std.specs.List.{list_any}
 use Rattle.std.specs.Option.{option_map_or}
 use Rattle.std.proofs.lemmas.List.Elements.{Contains-append_left, Contains-append_right}
 use Rattle.cil_base.specs.Lists.{contains_cases, contains_here, contains_later, contains_none}
-use Rattle.cil_names.specs.syntax.Kinds.{is_wanted}
-use Rattle.cil_names.specs.syntax.Forms.{word_and_term}
+use Rattle.cil_syntax.specs.Kinds.{is_wanted}
+use Rattle.cil_syntax.specs.Forms.{word_and_term}
 use Rattle.cil_faults.specs.Namespaces.{Namespace}
-use Rattle.cil_names.specs.syntax.Scopes.{ScopedWord}
-use Rattle.cil_names.specs.syntax.Terms.{Term, Leaf, Name, Form, Terms, nil, cons}
+use Rattle.cil_syntax.specs.Scopes.{ScopedWord}
+use Rattle.cil_syntax.specs.Terms.{Term, Leaf, Name, Form, Terms, nil, cons}
 use Rattle.cil_names.specs.macros.Item.{Item, OptSet, all_words_in, is_enabled, words_in}
 use Rattle.cil_names.specs.Declarations.{Symbol}
 use Rattle.cil_names.specs.Resolves.{found_in}
-use Rattle.cil_names.specs.syntax.Kind.{Kind}
+use Rattle.cil_syntax.specs.declared.kind.Kind.{Kind}
 use Rattle.cil_names.specs.Declarations.{Declared}
 use Rattle.cil_known.specs.Members.{StandsFor, space_of}
 use Rattle.cil_known.specs.Family.{Family, IsRanked, Range, Solves, SolvesBelow, no_range, Uses, gives, holds, in_value, is_given, is_giving}
-use Rattle.cil_names.specs.syntax.Expressions.{by_way, differ, is_in, is_in_each, is_in_odd, is_in_some, way_of}
+use Rattle.cil_syntax.specs.Expressions.{by_way, differ, is_in, is_in_each, is_in_odd, is_in_some, way_of}
 use Rattle.cil_known.specs.Spaces.{SpaceOf, Sets, is_declared, is_set, names, names_set, is_same_symbol, symbol_in}
 
 -- where both agree if a first test passes, both tests agree

@@ -4,14 +4,14 @@ use Rattle.std.specs.declared.vec.Vec.{Vec}
 use Rattle.std.proofs.Common.{◌≡◌, ℕ, ◌+◌, ◌<◌, List, [], ◌∷◌, ◌++◌, length, take, drop, get_or, refl, sym, ◌∙◌, ap, append_assoc}
 use Rattle.std.proofs.lemmas.List.{append-nil, drop-drop, length-append, take_more}
 use Rattle.cil_base.specs.declared.bytes.Bytes.{Bytes}
-use Rattle.cil_names.specs.syntax.LookedUp.{LookedUp}
-use Rattle.cil_names.specs.syntax.Op.{Op}
-use Rattle.cil_names.specs.syntax.Term as rust
-use Rattle.cil_names.specs.syntax.Term.{the_lemmas}
-use Rattle.cil_names.specs.syntax.Term.TheVariants as variants
-use Rattle.cil_names.specs.syntax.Word.{Word}
-use Rattle.cil_names.specs.syntax.Said.{said_of, all_said, word_in}
-use Rattle.cil_names.proofs.syntax_lemmas.SaidLemmas.{form_said, leaf_said, name_said}
+use Rattle.cil_syntax.specs.declared.term.LookedUp.{LookedUp}
+use Rattle.cil_syntax.specs.declared.term.Op.{Op}
+use Rattle.cil_syntax.specs.declared.term.Term as rust
+use Rattle.cil_syntax.specs.declared.term.Term.{the_lemmas}
+use Rattle.cil_syntax.specs.declared.term.Term.TheVariants as variants
+use Rattle.cil_syntax.specs.declared.term.Word.{Word}
+use Rattle.cil_syntax.specs.Said.{said_of, all_said, word_in}
+use Rattle.cil_syntax.proofs.SaidLemmas.{form_said, leaf_said, name_said}
 use Rattle.cil_names.specs.macros.Item.{words_in, all_words_in}
 
 module _ (m : ℕ) where

@@ -1,20 +1,20 @@
 -- Worked rows of sets, computed. As long as no statement declares an attribute, a type stands for one here, and `roletype` for
 -- `typeattributeset`.
 use Rattle.std.specs.Prelude.{◌≡◌, ℕ, Bool, true, false, ◌&&◌, ◌||◌, List, [], ◌∷◌, codes, Some, None, refl}
-use Rattle.cil_names.specs.syntax.Keyword.{Keyword}
-use Rattle.cil_names.specs.syntax.Keyword.TheVariants as keywords
-use Rattle.cil_names.specs.syntax.Kind.TheVariants as kinds
-use Rattle.cil_names.specs.syntax.Sign.TheVariants as signs
-use Rattle.cil_names.specs.syntax.Op.TheVariants as ops
-use Rattle.cil_names.specs.syntax.Scopes.{ScopedWord}
-use Rattle.cil_names.specs.syntax.Spelling.{same_bytes}
-use Rattle.cil_names.specs.syntax.Table.{entry_of}
-use Rattle.cil_names.specs.syntax.Terms.{Term, Leaf, Name, Form, Terms, nil, cons}
+use Rattle.cil_syntax.specs.declared.kind.Keyword.{Keyword}
+use Rattle.cil_syntax.specs.declared.kind.Keyword.TheVariants as keywords
+use Rattle.cil_syntax.specs.declared.kind.Kind.TheVariants as kinds
+use Rattle.cil_syntax.specs.declared.kind.Sign.TheVariants as signs
+use Rattle.cil_syntax.specs.declared.term.Op.TheVariants as ops
+use Rattle.cil_syntax.specs.Scopes.{ScopedWord}
+use Rattle.cil_syntax.specs.Spelling.{same_bytes}
+use Rattle.cil_syntax.specs.Table.{entry_of}
+use Rattle.cil_syntax.specs.Terms.{Term, Leaf, Name, Form, Terms, nil, cons}
 use Rattle.cil_names.specs.macros.Item.{Item, all_words_in, nobody, words_in}
 use Rattle.cil_names.specs.Declarations.{Symbol, nowhere}
 use Rattle.std.proofs.Common.{arith}
 use Rattle.cil_names.specs.Resolves.{found_in, has}
-use Rattle.cil_names.specs.syntax.Expressions.{is_in, is_in_each, is_in_odd, is_in_some}
+use Rattle.cil_syntax.specs.Expressions.{is_in, is_in_each, is_in_odd, is_in_some}
 use Rattle.cil_known.specs.Family.{Family, holds, in_value, is_given, no_range, DependsOn, at_once}
 use Rattle.cil_known.specs.Spaces.{SpaceOf, is_declared, names}
 

@@ -5,14 +5,14 @@ use Rattle.std.specs.List.{list_any}
 use Rattle.std.specs.Option.{option_map_or}
 use Rattle.std.specs.Cmp.Lexicographic.{bytes_decides}
 use Rattle.cil_base.specs.Searches.{any_from, any_true}
-use Rattle.cil_names.specs.syntax.Kind.{Kind}
-use Rattle.cil_names.specs.syntax.Kind.TheVariants as kinds
-use Rattle.cil_names.specs.syntax.Kinds.{is_wanted, kind_number}
+use Rattle.cil_syntax.specs.declared.kind.Kind.{Kind}
+use Rattle.cil_syntax.specs.declared.kind.Kind.TheVariants as kinds
+use Rattle.cil_syntax.specs.Kinds.{is_wanted, kind_number}
 use Rattle.cil_faults.specs.Namespaces.{Namespace}
-use Rattle.cil_names.specs.syntax.Scopes.{ScopedWord, asked, same_space}
-use Rattle.cil_names.specs.syntax.Spelling.{same_bytes}
-use Rattle.cil_names.proofs.syntax_lemmas.DecidedEquality.{spaces_decide}
-use Rattle.cil_names.proofs.syntax_lemmas.KindLemmas.{one_kind, same_kind}
+use Rattle.cil_syntax.specs.Scopes.{ScopedWord, asked, same_space}
+use Rattle.cil_syntax.specs.Spelling.{same_bytes}
+use Rattle.cil_syntax.proofs.DecidedEquality.{spaces_decide}
+use Rattle.cil_syntax.proofs.KindLemmas.{one_kind, same_kind}
 use Rattle.cil_names.specs.macros.Item.{Item, OptSet, is_enabled}
 use Rattle.cil_names.specs.Declarations.{Declaration, Declared, IsDeclaration, Symbol, by, declared_by, object, object_role}
 use Rattle.cil_names.specs.Resolves.{found_in}

@@ -13,10 +13,10 @@ use Rattle.cil_base.specs.Lists.{Lists, text_cmp, contains_cases, contains_here,
 use Rattle.cil_base.specs.MadeLists.{contains_flat, from_flat}
 use Rattle.cil_base.specs.Places.{drop_at, get_at, get_contains}
 use Rattle.cil_base.specs.Rising.{rising_nothing}
-use Rattle.cil_names.specs.syntax.Kind.{Kind}
-use Rattle.cil_names.specs.syntax.Kind.TheVariants as kinds
+use Rattle.cil_syntax.specs.declared.kind.Kind.{Kind}
+use Rattle.cil_syntax.specs.declared.kind.Kind.TheVariants as kinds
 use Rattle.cil_base.specs.Sorted.{lists_of}
-use Rattle.cil_names.specs.syntax.Spelling.{same_bytes}
+use Rattle.cil_syntax.specs.Spelling.{same_bytes}
 use Rattle.cil_names.specs.declared.entry.Entry.{Entry}
 use Rattle.cil_known.specs.declared.numbers.Sections.{Sections}
 use Rattle.cil_names.specs.blocks.Space.{Space}
@@ -24,10 +24,10 @@ use Rattle.cil_names.specs.Entries.{AreOrdered, is_declared_in, place_where}
 use Rattle.cil_names.specs.macros.Item.{OptSet}
 use Rattle.cil_known.specs.Numbers.{AreNumbers, IsNameAmong, has_section, name_given, names_of, place_in, spelled_of}
 use Rattle.cil_names.specs.Symbols.{is_of}
-use Rattle.cil_names.specs.syntax.Kinds.{kind_number}
+use Rattle.cil_syntax.specs.Kinds.{kind_number}
 use Rattle.cil_names.proofs.AnswerLemmas.{none_where}
 use Rattle.cil_names.proofs.CandidateLemmas.{place_is}
-use Rattle.cil_names.proofs.syntax_lemmas.KindLemmas.{one_kind, same_kind}
+use Rattle.cil_syntax.proofs.KindLemmas.{one_kind, same_kind}
 use Rattle.cil_names.proofs.ScopeLemmas.{passed_on}
 
 -- ---- a name that is there has its place

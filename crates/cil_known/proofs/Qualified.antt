@@ -5,18 +5,18 @@ use Rattle.std.proofs.lemmas.List.Elements.{All-cons, Contains-append_cases}
 use Rattle.std.proofs.lemmas.Bool.{and_parts, true≢false}
 use Rattle.std.proofs.lemmas.Bool.Decides.{eqb_tells}
 use Rattle.cil_base.specs.Places.{get_contains}
-use Rattle.cil_names.specs.syntax.Spelling.{begins_name, goes_on_name, is_name, longest_name}
+use Rattle.cil_syntax.specs.Spelling.{begins_name, goes_on_name, is_name, longest_name}
 use Rattle.std.proofs.Common.{rules, ◌≡◌, ℕ, length, get_or, ◌==◌, Bool, true, false, List, [], ◌∷◌, ◌++◌, refl, sym, ◌∙◌, ap, subst, inl, inr}
 use Rattle.std.proofs.lemmas.List.{reverse-reverse, reverse-append}
 use Rattle.std.proofs.lemmas.List.Splits.{slice_split_at, slice_split_none}
 use Rattle.cil_base.specs.Lists.{contains_here, contains_later, contains_cases, contains_none}
 use Rattle.cil_faults.specs.Namespaces.{qualified}
-use Rattle.cil_names.specs.syntax.Kind.{Kind}
+use Rattle.cil_syntax.specs.declared.kind.Kind.{Kind}
 use Rattle.std.proofs.lemmas.Option.{same_Some}
 use Rattle.cil_names.specs.declared.entry.Entry.{Entry}
 use Rattle.cil_names.specs.blocks.Space.{Space}
 use Rattle.cil_names.specs.Entries.{AreOrdered, by_name_cmp, key_of}
-use Rattle.cil_names.specs.syntax.NameSpaces.{rank}
+use Rattle.cil_syntax.specs.NameSpaces.{rank}
 use Rattle.cil_names.specs.macros.Item.{OptSet}
 use Rattle.cil_known.specs.Numbers.{AreApart, AreNumbers, ArePlain, ArePlainNames, IsPlain, has_section, spelled_of}
 use Rattle.cil_names.specs.blocks.Namespaces.{AreNamespaces, space_at}

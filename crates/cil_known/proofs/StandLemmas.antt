@@ -2,8 +2,8 @@
 use Rattle.std.proofs.Common.{◌≡◌, ℕ, true, List, get_or, refl, sym, ◌∙◌, ap, subst}
 use Rattle.std.specs.Prelude.{Option, Some, None, slice_get}
 use Rattle.std.proofs.lemmas.Option.{none-some, same_Some}
-use Rattle.cil_names.specs.syntax.Kind.{Kind}
-use Rattle.cil_names.specs.syntax.Scopes.{asked, ScopedWord}
+use Rattle.cil_syntax.specs.declared.kind.Kind.{Kind}
+use Rattle.cil_syntax.specs.Scopes.{asked, ScopedWord}
 use Rattle.cil_names.specs.macros.Item.{Item}
 use Rattle.cil_names.proofs.CandidateLemmas.{parts_of, they_are}
 use Rattle.cil_names.proofs.DeclareDecided.{symbol_by}
@@ -14,7 +14,7 @@ use Rattle.cil_names.specs.Laws.{MeansWhatItNames}
 use Rattle.cil_known.specs.Numbers.{has_section}
 use Rattle.cil_names.specs.Symbols.{symbol_of}
 use Rattle.cil_names.specs.Resolves.{found_in}
-use Rattle.cil_names.specs.syntax.Kinds.{is_wanted}
+use Rattle.cil_syntax.specs.Kinds.{is_wanted}
 use Rattle.cil_names.specs.blocks.Namespaces.{space_at}
 use Rattle.cil_known.specs.declared.known.Known.{Known}
 use Rattle.cil_known.specs.Known.{IsNumbered, IsKnown, IsNumberFor, StandsForNothing, enabled_in, meant_in}

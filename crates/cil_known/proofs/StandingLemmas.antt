@@ -5,8 +5,8 @@ use Rattle.std.proofs.Common.{◌≡◌, ℕ, ◌<◌, true, List, [], length, g
 use Rattle.cil_base.specs.Lists.{Lists, contains_none}
 use Rattle.cil_base.specs.Places.{get_at, get_contains, some_at}
 use Rattle.cil_base.proofs.NameSearches.{number_is}
-use Rattle.cil_names.specs.syntax.Kind.{Kind}
-use Rattle.cil_names.specs.syntax.Scopes.{ScopedWord}
+use Rattle.cil_syntax.specs.declared.kind.Kind.{Kind}
+use Rattle.cil_syntax.specs.Scopes.{ScopedWord}
 use Rattle.cil_names.specs.macros.Item.{Item}
 use Rattle.cil_known.specs.declared.known.Known.{Known}
 use Rattle.cil_names.specs.Declarations.{Declared, Symbol, name_of}

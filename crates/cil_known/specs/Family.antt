@@ -3,13 +3,13 @@
 use Rattle.std.specs.Prelude.{◌≡◌, ℕ, ◌<◌, Bool, true, false, ◌&&◌, ◌||◌, List, Contains, Some}
 use Rattle.std.specs.List.{list_any}
 use Rattle.std.specs.Option.{option_map_or}
-use Rattle.cil_names.specs.syntax.Forms.{word_and_term}
-use Rattle.cil_names.specs.syntax.Scopes.{ScopedWord}
-use Rattle.cil_names.specs.syntax.Terms.{Term, Terms}
+use Rattle.cil_syntax.specs.Forms.{word_and_term}
+use Rattle.cil_syntax.specs.Scopes.{ScopedWord}
+use Rattle.cil_syntax.specs.Terms.{Term, Terms}
 use Rattle.cil_names.specs.macros.Item.{Item, OptSet, is_enabled, words_in}
 use Rattle.cil_names.specs.Declarations.{Symbol}
 use Rattle.cil_names.specs.Resolves.{found_in}
-use Rattle.cil_names.specs.syntax.Expressions.{is_in}
+use Rattle.cil_syntax.specs.Expressions.{is_in}
 use Rattle.cil_known.specs.Spaces.{SpaceOf, Sets, is_declared, is_set, names, names_set, symbol_in}
 
 -- which members each set has

@@ -6,15 +6,15 @@ use Rattle.std.specs.Global.{Vec}
 use Rattle.cil_base.specs.Lists.{Lists}
 use Rattle.cil_base.specs.declared.bytes.Bytes.{Bytes}
 use Rattle.cil_names.specs.Declarations.{Symbol, name_of}
-use Rattle.cil_names.specs.syntax.Kind.{Kind}
-use Rattle.cil_names.specs.syntax.Kinds.{kind_number}
-use Rattle.cil_names.specs.syntax.Word.{Word}
-use Rattle.cil_names.specs.syntax.Terms.{Term}
+use Rattle.cil_syntax.specs.declared.kind.Kind.{Kind}
+use Rattle.cil_syntax.specs.Kinds.{kind_number}
+use Rattle.cil_syntax.specs.declared.term.Word.{Word}
+use Rattle.cil_syntax.specs.Terms.{Term}
 use Rattle.cil_names.specs.declared.entry.Entry.{Entry}
 use Rattle.cil_names.specs.blocks.Space.{Space}
 use Rattle.cil_names.specs.Entries.{AreEntries, is_declared_in, is_in}
 use Rattle.cil_names.specs.macros.Item.{Item, OptSet, replaced}
-use Rattle.cil_names.specs.syntax.Scopes.{ScopedWord}
+use Rattle.cil_syntax.specs.Scopes.{ScopedWord}
 use Rattle.cil_names.specs.Meanings.{meant}
 use Rattle.cil_names.specs.PermissionWords.{meanings, value_of}
 use Rattle.cil_names.specs.Resolves.{Wanted, wanted_in}

@@ -1,8 +1,8 @@
 -- Laws of what words stand for.
 use Rattle.std.specs.Prelude.{◌≡◌, ◌↔◌, ℕ, true, List, Some}
-use Rattle.cil_names.specs.syntax.Scopes.{ScopedWord, asked}
-use Rattle.cil_names.specs.syntax.Kind.{Kind}
-use Rattle.cil_names.specs.syntax.Kinds.{is_wanted}
+use Rattle.cil_syntax.specs.Scopes.{ScopedWord, asked}
+use Rattle.cil_syntax.specs.declared.kind.Kind.{Kind}
+use Rattle.cil_syntax.specs.Kinds.{is_wanted}
 use Rattle.cil_names.specs.macros.Item.{Item, OptSet}
 use Rattle.cil_names.specs.Declarations.{Declared, Symbol}
 use Rattle.cil_known.specs.Family.{Family, IsRanked, Range, Solves, holds, no_range}

@@ -1,11 +1,11 @@
 -- What a word stands for: an item for itself, an alias for its target, an attribute for its members. CIL Reference Guide, "Type
 -- Statements", "Role Statements", "User Statements".
 use Rattle.std.specs.Prelude.{◌≡◌, Bool, true, false, List, None, Some}
-use Rattle.cil_names.specs.syntax.Keyword.{Keyword}
-use Rattle.cil_names.specs.syntax.Keyword.TheVariants as keywords
-use Rattle.cil_names.specs.syntax.Kind.{Kind}
-use Rattle.cil_names.specs.syntax.Kind.TheVariants as kinds
-use Rattle.cil_names.specs.syntax.Scopes.{ScopedWord}
+use Rattle.cil_syntax.specs.declared.kind.Keyword.{Keyword}
+use Rattle.cil_syntax.specs.declared.kind.Keyword.TheVariants as keywords
+use Rattle.cil_syntax.specs.declared.kind.Kind.{Kind}
+use Rattle.cil_syntax.specs.declared.kind.Kind.TheVariants as kinds
+use Rattle.cil_syntax.specs.Scopes.{ScopedWord}
 use Rattle.cil_names.specs.macros.Item.{Item, OptSet}
 use Rattle.cil_names.specs.Declarations.{Declared, Symbol}
 use Rattle.cil_known.specs.Family.{Family, Solves, holds, no_range}

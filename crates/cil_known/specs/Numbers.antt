@@ -3,10 +3,10 @@
 use Rattle.std.specs.Prelude.{◌≡◌, ℕ, Bool, true, false, List, [], ◌∷◌, Contains, Some, slice_get, get_or, if◌then◌else◌}
 use Rattle.std.specs.Option.{unwrap_or}
 use Rattle.cil_base.specs.Lists.{Lists, text_cmp}
-use Rattle.cil_names.specs.syntax.Kind.{Kind}
-use Rattle.cil_names.specs.syntax.Kind.TheVariants as kinds
-use Rattle.cil_names.specs.syntax.Spelling.{is_name, same_bytes}
-use Rattle.cil_names.specs.syntax.Scopes.{IsDotless}
+use Rattle.cil_syntax.specs.declared.kind.Kind.{Kind}
+use Rattle.cil_syntax.specs.declared.kind.Kind.TheVariants as kinds
+use Rattle.cil_syntax.specs.Spelling.{is_name, same_bytes}
+use Rattle.cil_syntax.specs.Scopes.{IsDotless}
 use Rattle.cil_names.specs.declared.entry.Entry.{Entry}
 use Rattle.cil_known.specs.declared.numbers.Sections.{Sections}
 use Rattle.cil_names.specs.blocks.Space.{Space}

@@ -1,11 +1,11 @@
 -- What the enabled statements of a policy say. CIL Reference Guide, "roletype", "userrole".
 use Rattle.std.specs.Prelude.{◌≡◌, true, List, Contains}
-use Rattle.cil_names.specs.syntax.Keyword.{Keyword}
-use Rattle.cil_names.specs.syntax.Kind.{Kind}
-use Rattle.cil_names.specs.syntax.Terms.{Leaf, Terms, nil, cons}
+use Rattle.cil_syntax.specs.declared.kind.Keyword.{Keyword}
+use Rattle.cil_syntax.specs.declared.kind.Kind.{Kind}
+use Rattle.cil_syntax.specs.Terms.{Leaf, Terms, nil, cons}
 use Rattle.cil_names.specs.Declarations.{Symbol}
 use Rattle.cil_names.specs.macros.Item.{Item, OptSet, is_enabled}
-use Rattle.cil_names.specs.syntax.Scopes.{ScopedWord}
+use Rattle.cil_syntax.specs.Scopes.{ScopedWord}
 use Rattle.cil_known.specs.Members.{StandsFor}
 
 -- an enabled statement with this first word says this

@@ -3,12 +3,12 @@
 use Rattle.std.specs.Prelude.{Bool, false, ◌&&◌, ◌||◌, nat_eq, List, Option}
 use Rattle.std.specs.List.{list_any}
 use Rattle.std.specs.Option.{option_map_or}
-use Rattle.cil_names.specs.syntax.Keyword.{Keyword}
-use Rattle.cil_names.specs.syntax.Kind.{Kind}
-use Rattle.cil_names.specs.syntax.Kinds.{is_wanted, kind_number}
+use Rattle.cil_syntax.specs.declared.kind.Keyword.{Keyword}
+use Rattle.cil_syntax.specs.declared.kind.Kind.{Kind}
+use Rattle.cil_syntax.specs.Kinds.{is_wanted, kind_number}
 use Rattle.cil_faults.specs.Namespaces.{Namespace}
-use Rattle.cil_names.specs.syntax.Scopes.{ScopedWord, asked, same_space}
-use Rattle.cil_names.specs.syntax.Spelling.{same_bytes}
+use Rattle.cil_syntax.specs.Scopes.{ScopedWord, asked, same_space}
+use Rattle.cil_syntax.specs.Spelling.{same_bytes}
 use Rattle.cil_names.specs.macros.Item.{Item, OptSet, is_enabled}
 use Rattle.cil_names.specs.Declarations.{Declaration, Symbol, declared_by, object_role}
 use Rattle.cil_names.specs.Resolves.{found_in}

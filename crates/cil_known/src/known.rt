@@ -2,17 +2,17 @@
 //! look-up: each word was looked up once, when the table of words was filled.
 
 ghost use Rattle.std.specs.Prelude.{◌≡◌, ℕ, List, MatchOption, None, get_or, true};
-ghost use Rattle.cil_names.specs.syntax.Kind as kinds;
+ghost use Rattle.cil_syntax.specs.declared.kind.Kind as kinds;
 ghost use Rattle.cil_names.specs.macros.Item.{Item, is_enabled};
 ghost use Rattle.cil_names.specs.macros.Items.{item_at};
-ghost use Rattle.cil_names.specs.syntax.Scopes.{ScopedWord};
+ghost use Rattle.cil_syntax.specs.Scopes.{ScopedWord};
 ghost use Rattle.cil_known.specs.Numbers.{has_section};
 ghost use Rattle.cil_known.specs.Members.{HasNoSets};
 ghost use Rattle.cil_known.specs.Known.{IsKnown, IsNumberFor, StandsForNothing, enabled_in, meant_in};
 
 use cil_names::macros::Instances;
-use cil_names::syntax::{Bytes, Kind};
 use cil_names::{Lookup, Meaning, Words, laws, same_kind};
+use cil_syntax::{Bytes, Kind};
 
 /// What is known of the words of a policy: what each means, and the number of each symbol that they can mean.
 #[derive(Clone, Copy)]

@@ -5,12 +5,12 @@ ghost use Rattle.cil_names.specs.macros.Item.{all_words_in, words_in};
 ghost use Rattle.cil_known.specs.Known.{wanted_with};
 ghost use Rattle.cil_names.specs.Resolves.{all_wanted_in, words_of_class};
 ghost use Rattle.cil_names.specs.Unresolved.{terms_with};
-ghost use Rattle.cil_names.specs.syntax.Said.{all_said, said_of};
-ghost use Rattle.cil_names.specs.syntax.Scopes.{ScopedWord};
-ghost use Rattle.cil_names.specs.syntax.Word.{Word as AWord};
+ghost use Rattle.cil_syntax.specs.Said.{all_said, said_of};
+ghost use Rattle.cil_syntax.specs.Scopes.{ScopedWord};
+ghost use Rattle.cil_syntax.specs.declared.term.Word.{Word as AWord};
 
 use cil_names::Meaning;
-use cil_names::syntax::{Term, word_and_terms};
+use cil_syntax::{Term, word_and_terms};
 
 /// The meanings behind the first.
 pub fn behind_first(words: &[Meaning]) -> &[Meaning]

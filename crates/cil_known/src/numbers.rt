@@ -4,15 +4,15 @@ ghost use Rattle.std.specs.Prelude.{◌≡◌, ◌++◌, ◌∷◌, [], IfOk, On
 ghost use Rattle.std.specs.List.{flat_map};
 ghost use Rattle.std.specs.List.Sorted.{IsStrictlySortedBy};
 ghost use Rattle.cil_base.specs.Lists.{Lists, text_cmp};
-ghost use Rattle.cil_names.specs.syntax.Kind as kinds;
+ghost use Rattle.cil_syntax.specs.declared.kind.Kind as kinds;
 ghost use Rattle.cil_names.specs.Entries.{AreOrdered, is_in};
 ghost use Rattle.cil_known.specs.Numbers.{AreApart, AreNumbers, ArePlainNames, IsNameAmong, has_section, name_given, names_of, place_in, spelled_of};
 
 use crate::spelled::spelled;
 use cil_base::NoMemory;
 use cil_names::blocks::Namespaces;
-use cil_names::syntax::{Bytes, Kind};
 use cil_names::{Entry, Lookup, OptSet, place_among};
+use cil_syntax::{Bytes, Kind};
 use std::alloc::Global;
 
 /// The qualified names of the declared symbols that have sections, each kind in byte order.

@@ -7,7 +7,7 @@ ghost use Rattle.cil_names.specs.blocks.Namespaces.{space_at};
 use cil_base::NoMemory;
 use cil_names::blocks::Namespaces;
 use cil_names::blocks::spelled::spelled as spelled_space;
-use cil_names::syntax::Bytes;
+use cil_syntax::Bytes;
 use std::alloc::Global;
 
 /// The qualified name of a symbol in the namespace of this number.

@@ -28,4 +28,3 @@ pub mod WrittenPartLemmas
 pub mod UnscopedLemmas
 pub use Rattle.cil_macros.proofs.blocks_lemmas
 pub use Rattle.cil_macros.proofs as macros_lemmas
-pub use Rattle.cil_syntax.proofs as syntax_lemmas

@@ -20,4 +20,3 @@ pub mod Unresolved
 pub mod Worded
 pub mod blocks
 pub mod macros
-pub mod syntax

@@ -39,7 +39,6 @@ mod written_parts;
 pub use asked::word_asked;
 pub use cil_macros as macros;
 pub use cil_macros::blocks;
-pub use cil_syntax as syntax;
 pub use enabled::{flags_of, is_declared};
 pub use entry::Entry;
 pub use guesses::{Guesses, hash_of};

@@ -1,6 +1,6 @@
 use Rattle.std.specs.Prelude.{◌≡◌, drop, length, take}
-use Rattle.cil_names.specs.syntax.Scopes.{ScopedWord}
-use Rattle.cil_names.specs.syntax.Word.{Word}
+use Rattle.cil_syntax.specs.Scopes.{ScopedWord}
+use Rattle.cil_syntax.specs.declared.term.Word.{Word}
 use Rattle.cil_names.proofs.AskedLemmas.{all_asked_in}
 use Rattle.cil_known.proofs.meanings_behind.+terms.Given as goal
 
