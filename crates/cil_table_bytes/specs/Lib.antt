@@ -8,5 +8,5 @@ pub mod classes
 pub mod tables
 pub mod conditions
 pub mod macros
-pub mod names
+pub mod names_crate
 pub mod optionals
