@@ -11,6 +11,7 @@ mod listing;
 
 pub use cil_avc as avc;
 pub use cil_avc::decide;
+pub use cil_table_bytes as table_bytes;
 pub use cil_table_bytes::tables;
 pub use fault::{HostError, QueryFault};
 pub use host::{Host, Loaded};

@@ -5,3 +5,4 @@ pub mod Ends
 pub mod Located
 pub mod Reading
 pub mod Sessions
+pub mod Written

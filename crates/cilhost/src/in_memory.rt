@@ -64,6 +64,12 @@ impl System for MemorySystem<'_> {
         text
     }
 
+    fn write(&mut self, _name: &str, _bytes: &[u8]) -> io::Result<()> {
+        let done = Err(io::Error::from(ErrorKind::PermissionDenied));
+        note(&mut self.failure, &done);
+        done
+    }
+
     fn hasher(&mut self) -> io::Result<BuildHasherDefault<DefaultHasher>> {
         let hasher = match self.no_hasher {
             Some(kind) => Err(io::Error::from(kind)),

@@ -10,11 +10,15 @@ mod argument_tests;
 mod arguments;
 mod capacity;
 mod check;
+mod compile;
+mod decide;
+mod ended;
 mod error;
 mod help;
 #[cfg(test)]
 mod in_memory;
 mod locate;
+mod modules;
 mod program;
 #[cfg(test)]
 mod search_tests;

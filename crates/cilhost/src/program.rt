@@ -10,9 +10,14 @@ ghost use Rattle.cilhost.specs.Located.{HasLocated};
 ghost use Rattle.cilhost.specs.Sessions.{IsSession, RunsSession};
 ghost use Rattle.std.specs.Borrow.{Bor};
 
-use crate::arguments::{CACHE, CHECK, FILE, LOCATE, OPTIONALS, SESSION, matches};
+use crate::arguments::{
+    CACHE, CHECK, CLASS, COMPILE, DECIDE, FILE, LOCATE, OPTIONALS, OUT, SESSION, SOURCE, TABLES,
+    TARGET, matches,
+};
 use crate::capacity::{capacity_of, refuse};
 use crate::check::run_check;
+use crate::compile::run_compile;
+use crate::decide::{Query, run_decide};
 use crate::error::{Error, STREAMS};
 use crate::locate::run_locate;
 use crate::session::run_session;
@@ -94,6 +99,33 @@ pub fn run<Y: System, R: Source, W: Sink, E: Write>(
             alloc,
             files,
             optionals,
+            system,
+            &mut streams.output,
+            &mut streams.messages,
+        );
+    }
+    if name == COMPILE {
+        let out = arguments.get_str(OUT).unwrap_or("");
+        return run_compile(
+            alloc,
+            out,
+            files,
+            system,
+            &mut streams.output,
+            &mut streams.messages,
+        );
+    }
+    if name == DECIDE {
+        let path = arguments.get_str(TABLES).unwrap_or("");
+        let query = Query {
+            source: arguments.get_str(SOURCE).unwrap_or(""),
+            target: arguments.get_str(TARGET).unwrap_or(""),
+            class: arguments.get_str(CLASS).unwrap_or(""),
+        };
+        return run_decide(
+            alloc,
+            path,
+            query,
             system,
             &mut streams.output,
             &mut streams.messages,

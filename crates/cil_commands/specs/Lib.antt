@@ -1,0 +1,4 @@
+pub mod Asked
+pub mod Laid
+pub mod Told
+pub use Rattle.cil_server.specs as server

@@ -1,0 +1,78 @@
+//! The subcommand `compile`: the tables of some files, written to a file.
+
+ghost use Rattle.std.specs.Prelude.{◌≡◌, ◌<◌, [], IfErr};
+ghost use Rattle.cil_server.specs.Devices.{most_failures};
+ghost use Rattle.cil_commands.specs.Laid.{tables_of};
+ghost use Rattle.cilhost.specs.Compiles.{IsCompile, IsTold, IsUnwritten};
+ghost use Rattle.cilhost.specs.Written.{with_bytes};
+
+use crate::ended::finish;
+use crate::error::Error;
+use crate::modules::modules_of;
+use crate::status::Status;
+use crate::system::System;
+use cil_base::NoMemory;
+use cil_commands::server::{Sink, new_chunk};
+use cil_commands::{Laid, laid_out, tell};
+use cil_modset::ModuleSet;
+use std::alloc::Global;
+use std::io::Write;
+
+/// Installs the files from the left, each read and installed before the next, and compiles them. Where the policy is accepted, the bytes of
+/// its tables are then written to the file `out`. Last the reply of LOAD is written. A file that is refused, or cannot be opened or read,
+/// ends it before the policy is compiled, and tables that cannot be written end it before the reply. Returns the status to end with.
+pub fn run_compile<Y: System, W: Sink, E: Write>(
+    alloc: Global,
+    out: &str,
+    files: &[&str],
+    system: &mut Y,
+    output: &mut W,
+    messages: &mut E,
+) -> Status
+    requires { W.failed output.old < most_failures }
+    ensures { IsCompile (Y.holds system.old) (Y.failure system.old) (Y.failure system.new) files.now out.entry (Y.written system.old) (Y.written system.new) output.old output.new
+        (record { bytes = W.contents output.old; failures = W.failed output.old }) (record { bytes = W.contents output.new; failures = W.failed output.new }) result }
+{
+    match modules_of(alloc, files, system) {
+        Ok(modules) => compile_all(alloc, out, &modules, system, output, messages),
+        Err(error) => error.report(messages),
+    }
+}
+
+/// Compiles the modules, writes the tables, and then the reply.
+fn compile_all<Y: System, W: Sink, E: Write>(
+    alloc: Global,
+    out: &str,
+    modules: &ModuleSet,
+    system: &mut Y,
+    output: &mut W,
+    messages: &mut E,
+) -> Status
+    requires { W.failed output.old < most_failures }
+{
+    let chunk = match new_chunk(alloc) {
+        Ok(chunk) => chunk,
+        Err(NoMemory) => return Error::NoMemory.report(messages),
+    };
+    let laid = laid_out(alloc, modules);
+    match write_tables(out, &laid, system) {
+        Ok(()) => finish(tell(laid.reply(), chunk, output), messages),
+        Err(error) => error.report(messages),
+    }
+}
+
+/// Writes the tables, where there are some.
+fn write_tables<'a, Y: System>(
+    out: &'a str,
+    laid: &Laid,
+    system: &mut Y,
+) -> Result<(), Error<'a>>
+{
+    let Some(tables) = laid.tables() else {
+        return Ok(());
+    };
+    match system.write(out, tables) {
+        Ok(()) => Ok(()),
+        Err(error) => Err(Error::failed(out, error)),
+    }
+}
