@@ -20,7 +20,7 @@ abbrev pub Says : Reply → List ℕ → Type 0
 Says (Loaded loaded) bytes = bytes ≡ of_loaded loaded
 Says (Faults count lines) bytes = bytes ≡ codes "FAULTS" ++ spaced count ++ newline ++ lines.now
 Says NoMemory bytes = bytes ≡ no_memory
-Says (Decided d) bytes = IsReplyOf d.permissions.now d.decision bytes
+Says (Decided permissions decision) bytes = IsReplyOf permissions.now decision bytes
 Says (Declined fault) bytes = bytes ≡ of_query_fault fault
 Says (Unreadable fault) bytes = bytes ≡ refused (code_of fault)
 
@@ -32,7 +32,7 @@ pub record TellsReply (reply : Reply) (tells : List ℕ → Type 0) : Type 0 whe
 
 -- the permissions of a decision rise
 abbrev pub IsOrderly : Reply → Type 0
-IsOrderly (Decided d) = IsStrictlySortedBy text_cmp d.permissions.now
+IsOrderly (Decided permissions decision) = IsStrictlySortedBy text_cmp permissions.now
 IsOrderly reply = Unit {0}
 
 -- how a command with this reply ends
@@ -40,7 +40,7 @@ abbrev pub end_of : Reply → End
 end_of (Loaded loaded) = ends.Done
 end_of (Faults count lines) = ends.Refused
 end_of NoMemory = ends.NoMemory
-end_of (Decided d) = ends.Done
+end_of (Decided permissions decision) = ends.Done
 end_of (Declined fault) = ends.Refused
 end_of (Unreadable fault) = ends.Refused
 

@@ -5,9 +5,10 @@ ghost use Rattle.cil_commands.specs.Asked.{LeavesAnswer, Replies};
 ghost use Rattle.cil_commands.specs.Told.{IsOrderly, Says, end_failures, end_of};
 ghost use Rattle.cil_server.specs.Devices.{most_failures};
 
-use crate::queries::query;
 use crate::reply::{End, Reply, tell};
 use cil_base::NoMemory;
+use cil_server::host::QueryFault;
+use cil_server::host::decide::{class_named, decide, defaults, parse_context};
 use cil_server::host::table_bytes::{TableError, decode};
 use cil_server::host::tables::Tables;
 use cil_server::{Sink, new_chunk};
@@ -41,13 +42,24 @@ pub fn ask<W: Sink>(
     }
 }
 
-/// What tables reply to a query. It takes no memory.
+/// What tables reply to a query: a decision, or the first fault (the source is not a valid context, the target is not one, there is no class of
+/// this name). It takes no memory.
 fn replied<'t>(tables: &'t Tables, source: &[u8], target: &[u8], class: &[u8]) -> Reply<'t>
     ensures says { (bytes : List ℕ) → Says result bytes → Replies tables.now source.now target.now class.now bytes (end_of result) }
     ensures orderly { IsOrderly result }
 {
-    match query(tables, source, target, class) {
-        Ok(decided) => Reply::Decided(decided),
-        Err(fault) => Reply::Declined(fault),
-    }
+    let Some(from) = parse_context(tables, source) else {
+        return Reply::Declined(QueryFault::BadSource);
+    };
+    let Some(onto) = parse_context(tables, target) else {
+        return Reply::Declined(QueryFault::BadTarget);
+    };
+    let Some(class) = class_named(tables, class) else {
+        return Reply::Declined(QueryFault::NoClass);
+    };
+    let Some(row) = tables.classes().get(class.number) else {
+        return Reply::Declined(QueryFault::NoClass);
+    };
+    let decision = decide(tables, &defaults(tables), &from, &onto, class);
+    Reply::Decided(row.permissions.as_slice(), decision)
 }

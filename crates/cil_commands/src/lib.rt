@@ -8,7 +8,6 @@
 
 mod asking;
 mod laid;
-mod queries;
 mod reply;
 
 pub use asking::ask;

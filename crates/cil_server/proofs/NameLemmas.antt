@@ -1,5 +1,5 @@
 -- The names of a mask, bit by bit.
-use Rattle.std.specs.Prelude.{codes, Contains, Option, MatchOption, None, Some}
+use Rattle.std.specs.Prelude.{codes, Contains, Option, MatchOption, None, Some, slice_get, unwrap_or}
 use denote.Ref.{Bor}
 use Rattle.std.proofs.Common.{◌≡◌, ℕ, zero, suc, ◌+◌, ◌<◌, ◌≤◌, inl, inr, List, [], ◌∷◌, ◌++◌, refl, sym, ◌∙◌, ap, subst, arith, Bool, true, false}
 use Rattle.std.specs.List.{AllByRecursion}
@@ -8,6 +8,9 @@ use Rattle.std.specs.declared.cmp.Ordering.TheVariants.{Less}
 use Rattle.std.proofs.lemmas.Bool.{cases_order}
 use Rattle.std.proofs.lemmas.List.{append_assoc, append-nil}
 use Rattle.cil_base.specs.Lists.{contains_cases, contains_here, contains_later, contains_none, text_cmp}
+use Rattle.cil_base.specs.Places.{get_at}
+use Rattle.cil_base.specs.Rising.{rises_between}
+use Rattle.cil_host.specs.decide.declared.decision.Decision.{Decision}
 use Rattle.cil_host.specs.Machine.{OfLoaded, State}
 use Rattle.cil_host.specs.Permissions.{AreNamesOf, IsPermissionOf}
 use Rattle.cil_server.specs.Masks.{AreOfMask, IsListed, IsReplyOf, TellsMasks, TellsNames}
@@ -222,7 +225,7 @@ rising_by_places : (xs : List (List ℕ))
 unfolding IsStrictlySortedBy
 rising_by_places [] f = tt
 rising_by_places (x ∷ xs) f = (
-  all_of (λ q. text_cmp x q ≡ Less) xs (λ q c. let at = contains_place xs q c in f 0 (suc at.0) x q (omega arith) refl at.1),
+  all_of (λ q. text_cmp x q ≡ Less) xs (λ q c. let at = get_at xs q c in f 0 (suc at.0) x q (omega arith) refl at.2),
   rising_by_places xs (λ i j a b less p q. f (suc i) (suc j) a b (omega (arith, less)) p q),
 )
 
@@ -236,7 +239,7 @@ names_of_mask h class_name permissions mask names are of = record {
   rising = of.rising;
   members = λ name. (
     (λ c. let is = (of.members name).0 c in
-      record { bit = is.bit; within = is.within; named = record { is_set = is.listed.is_set; permission = (are.all is.bit name).1 is.listed.is_name } }),
+        record { bit = is.bit; within = is.within; named = record { is_set = is.listed.is_set; permission = (are.all is.bit name).1 is.listed.is_name } }),
     (λ is. (of.members name).1 (record {
       bit = is.bit;
       within = is.within;

@@ -26,6 +26,8 @@ mod session;
 mod status;
 mod system;
 #[cfg(test)]
+mod table_tests;
+#[cfg(test)]
 mod tests;
 
 use crate::arguments::words;
