@@ -1,6 +1,8 @@
 pub mod Arguments
 pub mod Checks
 pub mod Commands
+pub mod Compiles
+pub mod Decides
 pub mod Ends
 pub mod Located
 pub mod Reading

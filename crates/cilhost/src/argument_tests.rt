@@ -3,7 +3,7 @@
 use crate::in_memory::{Closed, FILLED, Left, program};
 use crate::program::{Streams, run};
 use crate::status::Status;
-use cil_server::Counted;
+use cil_commands::server::Counted;
 use std::test::Fail;
 
 /// Whether a text has a part.

@@ -1,11 +1,11 @@
 //! The arguments of the program: their words, and what they ask for.
 
-ghost use Rattle.std.specs.Prelude.{◌≡◌, ◌⊎◌, ℕ, List, Option, IfErr, IfOk, codes, false, map, string_bytes};
+ghost use Rattle.std.specs.Prelude.{◌≡◌, [], ℕ, List, Option, IfErr, IfOk, codes, false, map, string_bytes};
 ghost use Rattle.clap.specs.Simple.{app_of};
 ghost use Rattle.clap.specs.Walk.{rule_of};
 ghost use Rattle.clap.specs.Words.{kind_of};
-ghost use Rattle.cilhost.specs.Arguments.{AreOf, AskForCheck, AskForSession, HasSize};
-ghost use Rattle.cilhost.specs.Commands.{IsCommand, cache_rule, check, compile, decide, file_rule, locate, optionals_rule, out_rule, program, session, tables_rule, word_rule};
+ghost use Rattle.cilhost.specs.Arguments.{AreOf, AskForCheck, AskForCompile, AskForDecide, AskForOne, AskForSession, HasQuery, HasSize, HasWord};
+ghost use Rattle.cilhost.specs.Commands.{IsCommand, cache_rule, check, compile, decide, file_rule, locate, optionals_rule, out_rule, program, program_of_modules, session, tables_rule, word_rule};
 
 use crate::error::Error;
 use crate::help;
@@ -68,8 +68,11 @@ pub fn matches<'a>(alloc: Global, words: &'a [String]) -> Result<ArgMatches<'a>,
     ensures session { (size : Option (List ℕ)) (files : List (List ℕ)) → AskForSession (map string_bytes words.now) size files
         → IfOk result (λ found. AreOf (codes "session") files found × HasSize size found) }
     ensures check { (files : List (List ℕ)) → AskForCheck (map string_bytes words.now) files → IfOk result (AreOf (codes "check") files) }
-    ensures accepts { (size : Option (List ℕ)) (files : List (List ℕ)) → AskForSession (map string_bytes words.now) size files ⊎ AskForCheck (map string_bytes words.now) files
-        → IfErr result (λ error. kind_of error ≡ ErrorKind.OutOfMemory) }
+    ensures compile { (out : List ℕ) (files : List (List ℕ)) → AskForCompile (map string_bytes words.now) out files
+        → IfOk result (λ found. AreOf (codes "compile") files found × HasWord (codes "out") out found) }
+    ensures decide { (path source target class_name : List ℕ) → AskForDecide (map string_bytes words.now) path source target class_name
+        → IfOk result (λ found. AreOf (codes "decide") [] found × HasQuery path source target class_name found) }
+    ensures accepts { AskForOne (map string_bytes words.now) → IfErr result (λ error. kind_of error ≡ ErrorKind.OutOfMemory) }
 {
     let program = program_command(alloc)?;
     program.try_get_matches_from(words)
@@ -95,10 +98,12 @@ fn program_command<'a>(alloc: Global) -> Result<Command<'a>, AllocError>
 }
 
 /// The program with the subcommands on files of tables.
-fn with_tables<'a>(alloc: Global, program: Command<'a>) -> Result<Command<'a>, AllocError>
+fn with_tables<'a>(alloc: Global, before: Command<'a>) -> Result<Command<'a>, AllocError>
+    requires { app_of before ≡ program_of_modules }
+    ensures { IfOk result (λ command. app_of command ≡ program) }
 {
     let compile = compile_command(alloc)?;
-    let with_compile = program.subcommand(compile)?;
+    let with_compile = before.subcommand(compile)?;
     let decide = decide_command(alloc)?;
     with_compile.subcommand(decide)
 }

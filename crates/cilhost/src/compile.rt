@@ -1,9 +1,11 @@
 //! The subcommand `compile`: the tables of some files, written to a file.
 
-ghost use Rattle.std.specs.Prelude.{◌≡◌, ◌<◌, [], IfErr};
-ghost use Rattle.cil_server.specs.Devices.{most_failures};
-ghost use Rattle.cil_commands.specs.Laid.{tables_of};
-ghost use Rattle.cilhost.specs.Compiles.{IsCompile, IsTold, IsUnwritten};
+ghost use Rattle.std.specs.Prelude.{◌≡◌, ◌<◌, ℕ, List, [], IfErr, OnErr, OnOk};
+ghost use Rattle.std.specs.Borrow.{Bor};
+ghost use Rattle.cil_commands.specs.Laid.{IsLaid, tables_of};
+ghost use Rattle.cil_commands.specs.server.Devices.{most_failures};
+ghost use Rattle.cilhost.specs.Compiles.{IsCompile, IsUnwritten};
+ghost use Rattle.cilhost.specs.Reading.{HasJust, Known};
 ghost use Rattle.cilhost.specs.Written.{with_bytes};
 
 use crate::ended::finish;
@@ -39,7 +41,7 @@ pub fn run_compile<Y: System, W: Sink, E: Write>(
     }
 }
 
-/// Compiles the modules, writes the tables, and then the reply.
+/// Compiles modules, writes their tables, and then the reply.
 fn compile_all<Y: System, W: Sink, E: Write>(
     alloc: Global,
     out: &str,
@@ -49,24 +51,46 @@ fn compile_all<Y: System, W: Sink, E: Write>(
     messages: &mut E,
 ) -> Status
     requires { W.failed output.old < most_failures }
+    ensures { (holds : List ℕ → Known) (files : List (Bor (List ℕ))) → HasJust holds files modules.now
+        → IsCompile holds (Y.failure system.old) (Y.failure system.new) files out.entry (Y.written system.old) (Y.written system.new) output.old output.new
+        (record { bytes = W.contents output.old; failures = W.failed output.old }) (record { bytes = W.contents output.new; failures = W.failed output.new }) result }
 {
-    let chunk = match new_chunk(alloc) {
-        Ok(chunk) => chunk,
-        Err(NoMemory) => return Error::NoMemory.report(messages),
-    };
-    let laid = laid_out(alloc, modules);
-    match write_tables(out, &laid, system) {
+    match new_chunk(alloc) {
+        Ok(chunk) => {
+            let laid = laid_out(alloc, modules);
+            write_all(out, &laid, chunk, system, output, messages)
+        }
+        Err(NoMemory) => Error::NoMemory.report(messages),
+    }
+}
+
+/// Writes the tables that were laid out, where there are some, and then the reply, with memory for the buffer.
+fn write_all<Y: System, W: Sink, E: Write>(
+    out: &str,
+    laid: &Laid,
+    chunk: Vec<u8>,
+    system: &mut Y,
+    output: &mut W,
+    messages: &mut E,
+) -> Status
+    requires empty { chunk.items ≡ [] }
+    requires sound { W.failed output.old < most_failures }
+    ensures { (holds : List ℕ → Known) (files : List (Bor (List ℕ))) (modules : List (List ℕ)) → HasJust holds files modules → IsLaid modules laid.now
+        → IsCompile holds (Y.failure system.old) (Y.failure system.new) files out.entry (Y.written system.old) (Y.written system.new) output.old output.new
+        (record { bytes = W.contents output.old; failures = W.failed output.old }) (record { bytes = W.contents output.new; failures = W.failed output.new }) result }
+{
+    match write_tables(out, laid, system) {
         Ok(()) => finish(tell(laid.reply(), chunk, output), messages),
         Err(error) => error.report(messages),
     }
 }
 
-/// Writes the tables, where there are some.
-fn write_tables<'a, Y: System>(
-    out: &'a str,
-    laid: &Laid,
-    system: &mut Y,
-) -> Result<(), Error<'a>>
+/// Writes the tables that were laid out, where there are some.
+fn write_tables<'a, Y: System>(out: &'a str, laid: &Laid, system: &mut Y) -> Result<(), Error<'a>>
+    ensures written { OnOk result (Y.written system.new ≡ with_bytes out.now (tables_of laid.now) (Y.written system.old)) }
+    ensures unwritten { OnErr result (Y.written system.new ≡ Y.written system.old) }
+    ensures sound { OnOk result (Y.failure system.new ≡ Y.failure system.old) }
+    ensures due { IfErr result (IsUnwritten (Y.failure system.old) (Y.failure system.new) out.entry (tables_of laid.now)) }
 {
     let Some(tables) = laid.tables() else {
         return Ok(());

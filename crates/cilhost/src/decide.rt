@@ -1,8 +1,8 @@
 //! The subcommand `decide`: a query of the tables of a file.
 
 ghost use Rattle.std.specs.Prelude.{◌≡◌, ◌<◌, IfErr, IfOk, OnOk};
-ghost use Rattle.cil_server.specs.Devices.{most_failures};
-ghost use Rattle.cilhost.specs.Decides.{IsBytesOf, IsDecide, IsUnread};
+ghost use Rattle.cil_commands.specs.server.Devices.{most_failures};
+ghost use Rattle.cilhost.specs.Decides.{AreBytesOf, IsDecide, IsUnread};
 
 use crate::ended::finish;
 use crate::error::Error;
@@ -36,6 +36,9 @@ pub fn run_decide<Y: System, W: Sink, E: Write>(
     messages: &mut E,
 ) -> Status
     requires { W.failed output.old < most_failures }
+    ensures decide { IsDecide (Y.holds system.old) (Y.failure system.old) (Y.failure system.new) path.entry query.entry.source.now query.entry.target.now query.entry.class.now output.old output.new
+        (record { bytes = W.contents output.old; failures = W.failed output.old }) (record { bytes = W.contents output.new; failures = W.failed output.new }) result }
+    ensures unwritten { Y.written system.new ≡ Y.written system.old }
 {
     match bytes_of(alloc, path, system) {
         Ok(bytes) => {
@@ -56,7 +59,12 @@ fn bytes_of<'a, Y: System>(
     alloc: Global,
     path: &'a str,
     system: &mut Y,
-) -> Result<Vec<u8>, Error<'a>> {
+) -> Result<Vec<u8>, Error<'a>>
+    ensures bytes { IfOk result (λ bytes. AreBytesOf (Y.holds system.old path.now) bytes.items) }
+    ensures sound { OnOk result (Y.failure system.new ≡ Y.failure system.old) }
+    ensures due { IfErr result (IsUnread (Y.holds system.old path.now) (Y.failure system.old) (Y.failure system.new) path.entry) }
+    ensures unwritten { Y.written system.new ≡ Y.written system.old }
+{
     let bytes = match system.read(alloc, path, LONGEST_TABLES as u64 + 1) {
         Ok(bytes) => bytes,
         Err(error) => return Err(Error::failed(path, error)),

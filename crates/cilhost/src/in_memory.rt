@@ -13,7 +13,7 @@ use crate::session::run_session;
 use crate::status::Status;
 use crate::system::{System, note, start_of};
 use cil_base::{Bytes, NoMemory};
-use cil_server::Counted;
+use cil_commands::server::Counted;
 use std::alloc::{AllocError, Global};
 use std::hash::{BuildHasherDefault, DefaultHasher};
 use std::io::{self, ErrorKind, Read, Write};
@@ -134,12 +134,7 @@ impl System for KeepingSystem<'_> {
 }
 
 /// Keeps one file more.
-fn keep(
-    alloc: Global,
-    written: &mut Vec<WrittenFile>,
-    name: &str,
-    bytes: &[u8],
-) -> io::Result<()>
+fn keep(alloc: Global, written: &mut Vec<WrittenFile>, name: &str, bytes: &[u8]) -> io::Result<()>
     ensures whole { OnOk result (written.new.items ≡ written.old.items ++ record { name = name.now; bytes = bytes.now } ∷ []) }
     ensures part { OnErr result (written.new.items ≡ written.old.items) }
 {

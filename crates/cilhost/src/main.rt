@@ -33,7 +33,7 @@ mod tests;
 use crate::arguments::words;
 use crate::program::{Streams, run};
 use crate::system::Machine;
-use cil_server::Counted;
+use cil_commands::server::Counted;
 use std::process::ExitCode;
 
 fn main(rt: HostRuntime) -> ExitCode {

@@ -2,7 +2,7 @@
 
 ghost use Rattle.std.specs.Prelude.{◌≡◌, ◌≢◌, ◌⊎◌, ◌<◌, ℕ, Bool, List, Option, IfErr, map, option_map, string_bytes};
 ghost use Rattle.clap.specs.Words.{kind_of};
-ghost use Rattle.cil_server.specs.Devices.{most_failures};
+ghost use Rattle.cil_commands.specs.server.Devices.{most_failures};
 ghost use Rattle.cilhost.specs.Arguments.{AskForCheck, AskForSession, AsksForCache, HasNoCapacity};
 ghost use Rattle.cilhost.specs.Checks.{HasChecked, RunsCheck};
 ghost use Rattle.cilhost.specs.Ends.{HasServedNothing, answer_to, error_status};
@@ -23,7 +23,7 @@ use crate::locate::run_locate;
 use crate::session::run_session;
 use crate::status::Status;
 use crate::system::System;
-use cil_server::{Sink, Source};
+use cil_commands::server::{Sink, Source};
 use clap::error::ErrorKind;
 use std::alloc::Global;
 use std::io::Write;

@@ -2,9 +2,11 @@
 
 use crate::compile::run_compile;
 use crate::decide::{Query, run_decide};
-use crate::in_memory::{Closed, FILLED, KeepingSystem, Left, MemorySystem, compile, decide, keeping};
+use crate::in_memory::{
+    Closed, FILLED, KeepingSystem, Left, MemorySystem, compile, decide, keeping,
+};
 use crate::status::Status;
-use cil_server::Counted;
+use cil_commands::server::Counted;
 use std::alloc::{AllocError, Global};
 use std::io::ErrorKind;
 use std::test::Fail;
@@ -29,8 +31,7 @@ const TABLES: &[u8] = b"CILT\x01\x00\
     \x00\x00\x00\x00\x00\x00\x00\x00\x00\x00\x00\x00";
 
 /// The reply of LOAD to this module, and to `faulty.cil` alone.
-const ACCEPTED: &str =
-    "OK 159 d45931ea9f06a9ced7e809682adb159f8b38c8e71f6a219ba0a5eab997e73225\n";
+const ACCEPTED: &str = "OK 159 d45931ea9f06a9ced7e809682adb159f8b38c8e71f6a219ba0a5eab997e73225\n";
 
 const FAULTY: &str = "FAULTS 1\n41 0 20 . a\n";
 
@@ -122,7 +123,10 @@ fn tables_are_written_where_files_are_accepted(rt: HostRuntime) {
         let mut system = keeping(rt.alloc(), COMPILED);
         system.fails = fails;
         let left = compile(rt.alloc(), &mut system, files);
-        assert!(rt; left.is(status, output, messages) && has_written(&system, is_written), "{files:?}");
+        assert!(rt;
+            left.is(status, output, messages) && has_written(&system, is_written),
+            "{files:?}"
+        );
     }
 }
 
