@@ -27,7 +27,7 @@ use Rattle.cilhost.specs.Ends.{answer_to}
 use Rattle.cilhost.specs.declared.status.Status.{Status}
 use Rattle.cilhost.specs.declared.status.Status.TheVariants.{Done, Failed, NoMemory}
 use Rattle.clap.specs.declared.parser.matches.ValueSource.TheVariants.{CommandLine}
-use Rattle.cilhost.specs.Arguments.{AreOf, AskForCheck, AskForCompile, AskForDecide, AskForOne, AskForSession, HasQuery, HasSize, HasWord, given_names, names_in, size_words}
+use Rattle.cilhost.specs.Arguments.{AreOf, AskForCheck, AskForCompile, AskForDecide, AskForOne, AskForSession, HasQuery, HasSize, HasWords, given_names, names_in, size_words}
 use Rattle.cilhost.specs.Commands.{program}
 use Rattle.cilhost.proofs.ArgumentLemmas.{a_check, a_compilation, a_session, a_sized_session, command_is_accepted, fewer_files, files_are_found, word_is_found}
 use Rattle.cilhost.proofs.QueryLemmas.{found_words, query_is_accepted, query_is_found}
@@ -126,18 +126,36 @@ files_handed_on command m names found name sub values none asked rows is given e
     let rows_are : Some (rows_of (found_of sub.now)) ≡ option_map (λ p. p.1) (subcommand_rows_of m) = rw is at rows in
     or_none values none names (given ∙ raw_values-rows (found_of sub.now) (codes "FILE") ∙ files_of (subcommand_rows_of m) _ _ _ asked rows_are) empty
 
-size_of_rows : (found : Option (Text × List Row)) (rows : List Row) (size : Option Text)
-    → option_map (λ p. first_of (codes "cache") p.1) found ≡ Some size → Some rows ≡ option_map (λ p. p.1) found → first_of (codes "cache") rows ≡ size
-size_of_rows (Some p) rows size is same = ap (λ o. unwrap_or (option_map (first_of (codes "cache")) o) None) same ∙ ap (λ o. unwrap_or o None) is
-size_of_rows None rows size is same = absurd cc
+word_of_rows : (key : Text) (found : Option (Text × List Row)) (rows : List Row) (word : Option Text)
+    → option_map (λ p. first_of key p.1) found ≡ Some word → Some rows ≡ option_map (λ p. p.1) found → first_of key rows ≡ word
+word_of_rows key (Some p) rows word is same = ap (λ o. unwrap_or (option_map (first_of key) o) None) same ∙ ap (λ o. unwrap_or o None) is
+word_of_rows key None rows word is same = absurd cc
 
--- the word behind `--cache` that is handed on is that of the words
-pub size_handed_on : (m : ArgMatches) (size : Option Text) (found : Option (Bor Text × Bor ArgMatches)) (name : Bor Text) (sub : Bor ArgMatches) (value : Option (Bor Text))
-    → HasSize size m → option_map (λ p. rows_of (found_of p.1.now)) found ≡ option_map (λ p. p.1) (subcommand_rows_of m) → found ≡ Some (name, sub)
-    → option_map (λ s. s.now) value ≡ first_value (found_of sub.now) (codes "cache") → option_map (λ s. s.now) value ≡ size
-size_handed_on m size found name sub value asked rows is given =
+-- the word of an option or of a place that is handed on is that of the words
+pub word_handed_on : (key : Text) (m : ArgMatches) (word : Option Text) (found : Option (Bor Text × Bor ArgMatches)) (name : Bor Text) (sub : Bor ArgMatches)
+    → option_map (λ p. first_of key p.1) (subcommand_rows_of m) ≡ Some word
+    → option_map (λ p. rows_of (found_of p.1.now)) found ≡ option_map (λ p. p.1) (subcommand_rows_of m) → found ≡ Some (name, sub)
+    → first_value (found_of sub.now) key ≡ word
+word_handed_on key m word found name sub asked rows is =
     let rows_are : Some (rows_of (found_of sub.now)) ≡ option_map (λ p. p.1) (subcommand_rows_of m) = rw is at rows in
-    given ∙ first_value-rows (found_of sub.now) (codes "cache") ∙ size_of_rows (subcommand_rows_of m) _ _ asked rows_are
+    first_value-rows (found_of sub.now) key ∙ word_of_rows key (subcommand_rows_of m) _ _ asked rows_are
+
+-- a word that is there is the one that is taken
+pub word_taken : (value : Option (Bor Text)) (none : Bor Text) (given : Option Text) (word : Text) → option_map (λ s. s.now) value ≡ given → given ≡ Some word
+    → (unwrap_or value none).now ≡ word
+word_taken (Some v) none given word is some = ap (λ o. unwrap_or o []) (is ∙ some)
+word_taken None none given word is some = absurd cc
+
+-- so it is of the words of a query
+pub query_handed_on : (m : ArgMatches) (path source target class_name : Text) (found : Option (Bor Text × Bor ArgMatches)) (name : Bor Text) (sub : Bor ArgMatches)
+    → HasQuery path source target class_name m → option_map (λ p. rows_of (found_of p.1.now)) found ≡ option_map (λ p. p.1) (subcommand_rows_of m) → found ≡ Some (name, sub)
+    → HasWords (found_of sub.now) path source target class_name
+query_handed_on m path source target class_name found name sub asked rows is = record {
+  tables = word_handed_on (codes "tables") m _ found name sub asked.tables rows is;
+  source_word = word_handed_on (codes "SOURCE") m _ found name sub asked.source_word rows is;
+  target_word = word_handed_on (codes "TARGET") m _ found name sub asked.target_word rows is;
+  class_word = word_handed_on (codes "CLASS") m _ found name sub asked.class_word rows is;
+}
 
 -- the subcommand that was asked for has its name
 pub command_is_found : (command : Text) (m : ArgMatches) (names : List Text) (found : Option (Bor Text × Bor ArgMatches)) → AreOf command names m

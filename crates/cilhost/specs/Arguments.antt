@@ -4,7 +4,9 @@ use Rattle.std.specs.List.{AllByRecursion}
 use Rattle.std.specs.Str.Parse.{IsNumeral, digits_value}
 use Rattle.clap.specs.Simple.{subcommand_rows_of}
 use Rattle.clap.specs.Walk.{Row, Text, all_of, first_of}
+use Rattle.clap.specs.Matches.{first_value}
 use Rattle.clap.specs.declared.parser.matches.ArgMatches.{ArgMatches}
+use Rattle.clap.specs.declared.parser.matches.Found.{Found}
 
 -- the word does not begin with - (45)
 abbrev pub IsPlain : List ℕ → Type 0
@@ -83,3 +85,10 @@ pub record HasQuery (path source target class_name : List ℕ) (matches : ArgMat
   pub source_word : HasWord (codes "SOURCE") source matches
   pub target_word : HasWord (codes "TARGET") target matches
   pub class_word : HasWord (codes "CLASS") class_name matches
+
+-- what was found has this file of tables, and this query
+pub record HasWords (found : Found) (path source target class_name : List ℕ) : Type 0 where
+  pub tables : first_value found (codes "tables") ≡ Some path
+  pub source_word : first_value found (codes "SOURCE") ≡ Some source
+  pub target_word : first_value found (codes "TARGET") ≡ Some target
+  pub class_word : first_value found (codes "CLASS") ≡ Some class_name

@@ -1,3 +1,4 @@
+pub mod Answered
 pub mod Arguments
 pub mod Checks
 pub mod Commands

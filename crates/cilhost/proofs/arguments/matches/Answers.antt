@@ -46,8 +46,7 @@ returns-clause-decide c = λ path source target class_name asks.
     let words = map string_bytes c.args.words.now in
     let found = query_found path source target class_name words asks in
     IfOk-weaker parse.result _ _ (λ m h.
-    let same = (h (ap is_simple c.in_ok-program.ensures)).1 ∙ ap (λ a. subcommand_of a words) c.in_ok-program.ensures in
-    (
+    let same = (h (ap is_simple c.in_ok-program.ensures)).1 ∙ ap (λ a. subcommand_of a words) c.in_ok-program.ensures in (
       ap names_in same ∙ found.0,
       record {
         tables = ap (option_map (λ p. first_of (codes "tables") p.1)) same ∙ found.1;
