@@ -27,7 +27,8 @@ pub const EXAMPLE: &str = "Example:
   printf 'LOAD\\nAV u:r:a u:r:b file\\nQUIT\\n' | cilhost session base.cil app.cil
 
 `cilhost check FILE..` says by its exit status whether a policy is accepted. `cilhost session
---help` describes the requests of a session, and what the numbers in its replies mean.";
+--help` describes the requests of a session, and what the numbers in its replies mean. `cilhost
+compile --out T FILE..` writes the compiled policy to T, and `cilhost decide --tables T` asks it.";
 
 /// What a session does, in one line.
 pub const SESSION: &str = "Installs files, then answers requests from standard input";
@@ -99,8 +100,8 @@ The FILEs are installed from left to right, and then compiled together. If the p
 its tables are written to T, in place of a file of this name that there may be. Standard output has
 the reply of LOAD, as of `cilhost check`: OK LENGTH DIGEST, with the length in bytes and the SHA-256
 of T, or FAULTS with how many there are, and a line for each. If a FILE or the policy is refused, T
-is left as it was. The same modules give the same bytes, in whatever order they came. `cilhost decide`
-asks the tables of T. Standard input is not read.";
+is left as it was. The same modules give the same bytes, in whatever order they came. The subcommand
+`cilhost decide` asks the tables of T. Standard input is not read.";
 
 /// To which file tables are written.
 pub const OUT: &str = "The file that the tables of the policy are written to";

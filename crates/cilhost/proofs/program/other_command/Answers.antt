@@ -46,8 +46,7 @@ returns-then-eq-3-clause-compile g c = λ out is given. absurd (not_this _ (code
 
 pub returns-then-eq-3-clause-decide : goal.returns-then-eq-3-clause-decide
 returns-then-eq-3-clause-decide g c = λ path source target class_name is given.
-    let words = c.query_of.ensures path source target class_name given in
-    (
+    let words = c.query_of.ensures path source target class_name given in (
       c.unwrap_or-path.result,
       rw c.unwrap_or-path.ensures (word_taken _ _ _ path c.get_str-then-eq-3.ensures given.tables),
       rw (words.0, words.1, words.2) at c.run_decide.ensures.decide,
