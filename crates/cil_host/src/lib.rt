@@ -15,6 +15,7 @@ pub use cil_faults as faults;
 pub use cil_modset as modset;
 pub use cil_sexpr as sexpr;
 pub use cil_syntax::Excerpt;
+pub use cil_table_bytes as table_bytes;
 pub use cil_table_bytes::{optionals, tables};
 pub use fault::{HostError, QueryFault};
 pub use host::{Host, Loaded};

@@ -23,8 +23,10 @@ mod turn;
 
 pub use cil_host as host;
 pub use cil_host::{avc, decide, optionals, tables};
+pub use decision_replies::put_masks;
 pub use devices::{Counted, Sink, Source};
 pub use loading::{LoadEnd, load};
 pub use output::{Output, new_chunk};
+pub use replies::{put_faults, put_loaded, put_query_fault, put_refused};
 pub use served::Served;
 pub use session::serve;
