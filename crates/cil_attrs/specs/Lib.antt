@@ -17,3 +17,4 @@ pub mod Targets
 pub mod known
 pub mod names
 pub mod macros
+pub mod blocks

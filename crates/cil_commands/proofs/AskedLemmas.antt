@@ -1,9 +1,8 @@
 -- What tables reply to a query, case by case.
-use Rattle.std.proofs.Common.{◌≡◌, ◌≤◌, ◌∙◌, List, ap, arith, length, subst, sym, true, ℕ}
+use Rattle.std.proofs.Common.{◌≡◌, ◌≤◌, ◌∙◌, List, ap, arith, length, subst, sym, ℕ}
 use Rattle.std.specs.Prelude.{◌↔◌, Err, Some, slice_get, unwrap_or}
 use Rattle.std.proofs.lemmas.Option.{slice_get_within}
 use Rattle.cil_commands.specs.Asked.{Decides, Declines, Replies, RepliesOf}
-use Rattle.cil_commands.specs.declared.reply.End.{End}
 use Rattle.cil_commands.specs.declared.reply.End.TheVariants as ends
 use Rattle.cil_server.specs.conditions.Bits.{IsOn, is_on}
 use Rattle.cil_server.proofs.host_lemmas.SettingLemmas.{on_true}

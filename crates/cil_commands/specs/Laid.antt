@@ -1,6 +1,6 @@
 -- What modules compile to, laid out: the bytes of their tables, with what these are told by; or the lines of their faults. This project's
 -- profile; the reply is that of LOAD.
-use Rattle.std.specs.Prelude.{◌≡◌, ◌++◌, ℕ, List, codes, Option, Some, None, Result, Ok, Err, length}
+use Rattle.std.specs.Prelude.{◌≡◌, ◌++◌, ℕ, List, codes, Option, Some, None, Result, Ok, Err}
 use Rattle.cil_commands.specs.declared.reply.End.{End}
 use Rattle.cil_commands.specs.declared.reply.End.TheVariants as ends
 use Rattle.cil_commands.specs.declared.laid.Laid.{Laid}

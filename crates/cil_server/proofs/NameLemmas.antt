@@ -11,11 +11,11 @@ use Rattle.cil_base.specs.Lists.{contains_cases, contains_here, contains_later, 
 use Rattle.cil_base.specs.Places.{get_at}
 use Rattle.cil_base.specs.Rising.{rises_between}
 use Rattle.cil_host.specs.decide.Decision.{Decision}
-use Rattle.cil_host.specs.Machine.{OfLoaded, State}
-use Rattle.cil_host.specs.Permissions.{AreNamesOf, IsPermissionOf}
-use Rattle.cil_server.specs.Masks.{AreOfMask, IsListed, IsReplyOf, TellsMasks, TellsNames}
-use Rattle.cil_server.specs.Replies.{listed, of_decision}
-use Rattle.cil_server.specs.Step.{IsNameOf, NamesOf}
+use Rattle.cil_host.specs.Machine.{State}
+use Rattle.cil_host.specs.Permissions.{AreNamesOf}
+use Rattle.cil_server.specs.Masks.{AreOfMask, IsListed, TellsMasks, TellsNames}
+use Rattle.cil_server.specs.Replies.{listed}
+use Rattle.cil_server.specs.Step.{NamesOf}
 use Rattle.cil_server.specs.Streams.{OutputState, Tells}
 use Rattle.cil_server.specs.Turns.{TellsDecision, TellsName, behind_comma}
 use Rattle.cil_server.proofs.StreamLemmas.{tells_before, tells_both, tells_none}

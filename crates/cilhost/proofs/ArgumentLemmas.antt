@@ -1,6 +1,6 @@
 -- What clap reads of the words of a subcommand: its name, and files that do not begin with `-`.
-use Rattle.std.proofs.Common.{◌≡◌, ◌∙◌, ℕ, Bool, true, false, List, [], ◌∷◌, ◌++◌, ◌⊎◌, map, Option, None, Some, refl, sym, ap, inl, inr, codes, length, ◌<◌, ◌≤◌, ◌&&◌, arith}
-use Rattle.std.specs.Prelude.{◌==◌, fold, option_map, is_some, nat_le, unwrap_or, IfSome}
+use Rattle.std.proofs.Common.{◌≡◌, ◌∙◌, ℕ, Bool, true, false, List, [], ◌∷◌, ◌++◌, Option, None, Some, refl, sym, ap, inl, inr, codes, length, ◌≤◌, ◌&&◌, arith}
+use Rattle.std.specs.Prelude.{◌==◌, fold, option_map, is_some, nat_le, IfSome}
 use Rattle.std.specs.List.{AllByRecursion, list_all}
 use Rattle.std.proofs.lemmas.List.{append-nil, append_assoc, length-append}
 use Rattle.std.proofs.lemmas.Bool.Decides.{eqb_tells, nat_tests}
@@ -10,22 +10,6 @@ use Rattle.clap.specs.Takes.{default_passes, entered_passes, is_valid, level_pas
 use Rattle.clap.specs.Walk.{Held, Names, Row, Rule, Text, Walk, all_of, finished, first_of, nothing_held, reading_by, rows_after, walk, walk_from, walked}
 use Rattle.clap.specs.Walk.Waiting.{idle, option, positional}
 use Rattle.clap.proofs.OnLiterals.{clap_on_literals}
-use Rattle.clap.specs.Matches.{first_value, found_of, matched_of, raw_values, subcommand_name_of}
-use Rattle.clap.specs.Simple.{subcommand_rows, subcommand_rows_of}
-use Rattle.clap.specs.Walk.{rows_of}
-use Rattle.clap.specs.declared.parser.matches.ArgMatches.{ArgMatches}
-use Rattle.clap.specs.declared.parser.matches.ArgMatches.TheViews.{out-ArgMatches, out-SubCommand}
-use Rattle.clap.specs.declared.parser.matches.SubCommand.{SubCommand}
-use Rattle.std.specs.Global.{Global}
-use Rattle.std.specs.Prelude.{Box, bytes_eq, option_and_then}
-use Rattle.std.specs.Box.{box_value}
-use Rattle.clap.specs.declared.error.kind.ErrorKind.{ErrorKind}
-use Rattle.clap.specs.declared.error.kind.ErrorKind.TheVariants.{OutOfMemory}
-use Rattle.clap.proofs.WalkLemmas.{first_value-rows, raw_values-rows}
-use Rattle.std.specs.Borrow.{Bor}
-use Rattle.cilhost.specs.Ends.{answer_to}
-use Rattle.cilhost.specs.declared.status.Status.{Status}
-use Rattle.cilhost.specs.declared.status.Status.TheVariants.{Done, Failed, NoMemory}
 use Rattle.clap.specs.declared.parser.matches.ValueSource.TheVariants.{CommandLine}
 use Rattle.cilhost.specs.Arguments.{AskFor, IsPlain, given_names, names_in}
 use Rattle.cilhost.specs.Commands.{cache_rule, check, compile, file_rule, out_rule, program, session}

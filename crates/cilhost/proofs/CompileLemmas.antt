@@ -1,6 +1,6 @@
 -- What a compilation leaves, and why it stops.
 use Rattle.std.proofs.Common.{◌≡◌, ◌+◌, ◌∙◌, Bor, Err, List, None, Ok, Option, Result, Some, ap, inl, inr, refl, subst, sym, ℕ}
-use Rattle.cil_commands.specs.Laid.{AreTables, IsLaid, LoadsTo, end_of_laid, load_end, reply_of, tables_of}
+use Rattle.cil_commands.specs.Laid.{AreTables, IsLaid, LoadsTo, end_of_laid, reply_of, tables_of}
 use Rattle.cil_commands.specs.Told.{LeavesReply, Says, end_failures, end_of}
 use Rattle.cil_commands.specs.declared.laid.Laid.{Laid}
 use Rattle.cil_commands.specs.declared.reply.End.{End}
@@ -14,7 +14,7 @@ use Rattle.cil_modset.specs.Changes.{IsInstalled}
 use Rattle.cil_modset.specs.Modules.{AreModules}
 use Rattle.cil_modset.specs.declared.set.Installed.{Installed}
 use Rattle.cil_sexpr.specs.declared.fault.ReadError.{ReadError}
-use Rattle.cilhost.specs.Compiles.{HasReplied, HaveTables, IsStop, IsUnwritten}
+use Rattle.cilhost.specs.Compiles.{HasReplied, IsStop, IsUnwritten}
 use Rattle.cilhost.specs.Ends.{end_status}
 use Rattle.cilhost.specs.Reading.{Adds, Failure, HasJust, IsTextOf, Known}
 use Rattle.cilhost.specs.Sessions.{Stream}

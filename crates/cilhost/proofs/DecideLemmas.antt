@@ -1,5 +1,5 @@
 -- The bytes of a file of tables.
-use Rattle.std.proofs.Common.{◌≡◌, ◌∙◌, ◌<◌, ◌≤◌, List, None, Some, arith, length, suc, sym, take, ℕ}
+use Rattle.std.proofs.Common.{◌≡◌, ◌∙◌, ◌<◌, ◌≤◌, List, None, Some, arith, length, suc, take, ℕ}
 use Rattle.std.specs.Prelude.{IfSome}
 use Rattle.std.proofs.lemmas.List.{length-take, take_all}
 use Rattle.cilhost.specs.Decides.{AreBytesOf, IsTooLong, longest_tables}

@@ -1,15 +1,10 @@
 -- What is found of the words that ask for a subcommand, and what the program does with that.
-use Rattle.std.proofs.Common.{◌≡◌, ◌∙◌, ℕ, Bool, true, false, List, [], ◌∷◌, ◌++◌, ◌⊎◌, map, Option, None, Some, refl, sym, ap, inl, inr, codes, length, ◌<◌, ◌≤◌, ◌&&◌, arith}
-use Rattle.std.specs.Prelude.{◌==◌, fold, option_map, is_some, nat_le, unwrap_or, IfSome}
-use Rattle.std.specs.List.{AllByRecursion, list_all}
-use Rattle.std.proofs.lemmas.List.{append-nil, append_assoc, length-append}
-use Rattle.std.proofs.lemmas.Bool.Decides.{eqb_tells, nat_tests}
-use Rattle.clap.specs.Lexer.{short_of, usize_max}
-use Rattle.clap.specs.Simple.{App, Shape, built, entered, built_leaf, filled, inherited, names_of, subcommand_of, with_index}
-use Rattle.clap.specs.Takes.{default_passes, entered_passes, is_valid, level_passes, settle_passes, takes, turn_passes, values_pass, walk_passes}
-use Rattle.clap.specs.Walk.{Held, Names, Row, Rule, Text, Walk, all_of, finished, first_of, nothing_held, reading_by, rows_after, walk, walk_from, walked}
-use Rattle.clap.specs.Walk.Waiting.{idle, option, positional}
-use Rattle.clap.proofs.OnLiterals.{clap_on_literals}
+use Rattle.std.proofs.Common.{◌≡◌, ◌∙◌, Bool, true, false, List, [], ◌∷◌, ◌⊎◌, map, Option, None, Some, refl, sym, ap, inl, inr, codes, length, ◌≤◌, arith}
+use Rattle.std.specs.Prelude.{option_map, unwrap_or}
+use Rattle.clap.specs.Lexer.{usize_max}
+use Rattle.clap.specs.Simple.{subcommand_of}
+use Rattle.clap.specs.Takes.{takes}
+use Rattle.clap.specs.Walk.{Row, Text, all_of, first_of}
 use Rattle.clap.specs.Matches.{first_value, found_of, matched_of, raw_values, subcommand_name_of}
 use Rattle.clap.specs.Simple.{subcommand_rows, subcommand_rows_of}
 use Rattle.clap.specs.Walk.{rows_of}
@@ -26,8 +21,7 @@ use Rattle.std.specs.Borrow.{Bor}
 use Rattle.cilhost.specs.Ends.{answer_to}
 use Rattle.cilhost.specs.declared.status.Status.{Status}
 use Rattle.cilhost.specs.declared.status.Status.TheVariants.{Done, Failed, NoMemory}
-use Rattle.clap.specs.declared.parser.matches.ValueSource.TheVariants.{CommandLine}
-use Rattle.cilhost.specs.Arguments.{AreOf, AskForCheck, AskForCompile, AskForDecide, AskForOne, AskForSession, HasQuery, HasSize, HasWords, given_names, names_in, size_words}
+use Rattle.cilhost.specs.Arguments.{AreOf, AskForCheck, AskForCompile, AskForDecide, AskForOne, AskForSession, HasQuery, HasWords, given_names, names_in, size_words}
 use Rattle.cilhost.specs.Commands.{program}
 use Rattle.cilhost.proofs.ArgumentLemmas.{a_check, a_compilation, a_session, a_sized_session, command_is_accepted, fewer_files, files_are_found, word_is_found}
 use Rattle.cilhost.proofs.QueryLemmas.{found_words, query_is_accepted, query_is_found}

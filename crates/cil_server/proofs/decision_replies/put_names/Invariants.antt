@@ -1,5 +1,3 @@
-use Rattle.std.specs.List.Sorted.{IsStrictlySortedBy}
-use Rattle.cil_base.specs.Lists.{text_cmp}
 use Rattle.cil_server.specs.Streams.{Tells}
 use Rattle.cil_server.proofs.NameLemmas.{AreTold}
 use Rattle.cil_server.proofs.decision_replies.put_names.Given as goal

@@ -1,4 +1,4 @@
-use Rattle.std.proofs.Common.{◌∙◌, arith, inr, refl, sym}
+use Rattle.std.proofs.Common.{arith, inr, refl}
 use Rattle.cilhost.proofs.DecideLemmas.{are_all, is_long}
 use Rattle.cilhost.proofs.decide.bytes_of.Goals as goal
 
