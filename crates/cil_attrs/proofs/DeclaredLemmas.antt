@@ -8,7 +8,7 @@ use Rattle.cil_faults.specs.Reported.{fault_at}
 use Rattle.cil_faults.specs.declared.code.FaultCode.{FaultCode}
 use Rattle.cil_faults.specs.declared.fault.Fault.{Fault}
 use Rattle.cil_faults.specs.declared.spot.Spot.{Spot}
-use Rattle.cil_known.specs.blocks.Space as blocks
+use Rattle.cil_known.specs.macros.blocks.Space as blocks
 use Rattle.cil_syntax.specs.declared.kind.Keyword.{Keyword}
 use Rattle.cil_syntax.specs.declared.kind.Keyword.TheVariants as keywords
 use Rattle.cil_syntax.specs.declared.kind.Kind.{Kind}

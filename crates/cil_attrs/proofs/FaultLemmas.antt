@@ -14,7 +14,7 @@ use Rattle.cil_faults.specs.Reported.{fault_at, global_fault}
 use Rattle.cil_faults.specs.declared.code.FaultCode.{FaultCode}
 use Rattle.cil_faults.specs.declared.code.FaultCode.TheVariants as causes
 use Rattle.cil_faults.specs.declared.fault.Fault.{Fault}
-use Rattle.cil_known.specs.blocks.Space as blocks
+use Rattle.cil_known.specs.macros.blocks.Space as blocks
 use Rattle.cil_syntax.specs.declared.kind.Keyword.{Keyword}
 use Rattle.cil_syntax.specs.declared.kind.Kind.{Kind}
 use Rattle.cil_syntax.specs.Forms.{word_and_term}

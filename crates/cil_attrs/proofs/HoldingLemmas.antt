@@ -14,7 +14,7 @@ use Rattle.cil_syntax.specs.Spelling.{same_bytes}
 use Rattle.cil_syntax.specs.Terms.{Term, Leaf, Name, Form, Terms, nil, cons}
 use Rattle.cil_syntax.proofs.DecidedEquality.{spaces_decide}
 use Rattle.cil_syntax.proofs.KindLemmas.{one_kind, same_kind}
-use Rattle.cil_known.specs.blocks.Namespaces.{space_at}
+use Rattle.cil_known.specs.macros.blocks.Namespaces.{space_at}
 use Rattle.cil_known.specs.macros.Item.{Item, all_replaced, replaced}
 use Rattle.cil_known.specs.names.Entry.{Entry}
 use Rattle.cil_known.specs.declared.known.Known.{Known}

@@ -3,8 +3,8 @@ use Rattle.std.proofs.Common.{◌≡◌, Bool, true, false, ◌||◌, refl, sym,
 use Rattle.std.specs.Prelude.{◌⊎◌, Option, Some, None, slice_get, ℕ, List}
 use Rattle.std.proofs.lemmas.Bool.{true≢false}
 use Rattle.cil_base.specs.Searches.{or_second}
-use Rattle.cil_known.specs.blocks.Namespaces.{AreNamespaces}
-use Rattle.cil_known.specs.blocks.Space as blocks
+use Rattle.cil_known.specs.macros.blocks.Namespaces.{AreNamespaces}
+use Rattle.cil_known.specs.macros.blocks.Space as blocks
 use Rattle.cil_syntax.specs.declared.kind.Kind.{Kind}
 use Rattle.cil_syntax.specs.declared.kind.Kind.TheVariants as kinds
 use Rattle.cil_syntax.specs.declared.kind.Sign.{Sign}

@@ -17,4 +17,3 @@ pub mod Targets
 pub mod known
 pub mod names
 pub mod macros
-pub mod blocks

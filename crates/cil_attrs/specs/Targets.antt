@@ -12,7 +12,7 @@ use Rattle.cil_syntax.specs.Forms.{word_and_term}
 use Rattle.cil_syntax.specs.Scopes.{ScopedWord}
 use Rattle.cil_syntax.specs.Terms.{Term, Leaf, Name, Form}
 use Rattle.cil_syntax.specs.declared.term.Word.{Word}
-use Rattle.cil_known.specs.blocks.Space as blocks
+use Rattle.cil_known.specs.macros.blocks.Space as blocks
 use Rattle.cil_known.specs.macros.Item.{Item, OptSet}
 use Rattle.cil_known.specs.macros.Items.{Kept, item_at, items_in, may_say_lists, says_as_written}
 use Rattle.cil_known.specs.names.Declarations.{Symbol}

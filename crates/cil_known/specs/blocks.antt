@@ -1,5 +1,3 @@
 -- What crates above take of cil_blocks.
 pub use Rattle.cil_names.specs.blocks.Branches
 pub use Rattle.cil_names.specs.blocks.Contents
-pub use Rattle.cil_names.specs.blocks.Namespaces
-pub use Rattle.cil_names.specs.blocks.Space

@@ -4,7 +4,7 @@ use Rattle.std.proofs.Common.{Result, Ok, Err, ◌≡◌, ◌↔◌, ◌⊎◌, 
 use Rattle.std.proofs.lemmas.List.{length-map}
 use Rattle.std.proofs.lemmas.Option.{none-some, same_Some}
 use Rattle.cil_base.specs.Places.{get_contains}
-use Rattle.cil_attrs.specs.blocks.Namespaces.{space_at}
+use Rattle.cil_attrs.specs.macros.blocks.Namespaces.{space_at}
 use Rattle.cil_settle.specs.declared.edge.Edge.{Edge}
 use Rattle.cil_settle.specs.Cycles.{IsWithin, Leads}
 use Rattle.cil_syntax.specs.declared.kind.Keyword.{Keyword}

@@ -26,7 +26,7 @@ use Rattle.cil_syntax.specs.Scopes.{ScopedWord}
 use Rattle.cil_syntax.specs.Table.{entry_of}
 use Rattle.cil_syntax.specs.Terms.{Name, cons}
 use Rattle.cil_syntax.proofs.KindLemmas.{one_kind, same_kind}
-use Rattle.cil_attrs.specs.blocks.Space.{Space}
+use Rattle.cil_attrs.specs.macros.blocks.Space.{Space}
 use Rattle.cil_attrs.specs.macros.Item.{Item, all_words_in}
 use Rattle.cil_attrs.specs.names.Declarations.{Symbol}
 use Rattle.cil_attrs.specs.names.Entries.{AreEntries, HasNoEntryIn, IsAnswer, IsEntryIn, IsNamed, is_entry_of}

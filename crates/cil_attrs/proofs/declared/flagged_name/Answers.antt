@@ -2,7 +2,7 @@ use Rattle.std.specs.Prelude.{length}
 use Rattle.std.proofs.Common.{◌≡◌, ◌≤◌, ◌∙◌, ap, subst, sym}
 use Rattle.std.proofs.lemmas.Bool.{true≢false}
 use Rattle.cil_base.specs.Places.{get_contains}
-use Rattle.cil_known.specs.blocks.Namespaces.{space_at}
+use Rattle.cil_known.specs.macros.blocks.Namespaces.{space_at}
 use Rattle.cil_known.specs.macros.Items.{item_at, items_in}
 use Rattle.cil_known.proofs.macros_lemmas.ItemLemmas.{item_there}
 use Rattle.cil_known.proofs.macros_lemmas.ItemsThere.{keyword_there}

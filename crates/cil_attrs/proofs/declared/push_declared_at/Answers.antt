@@ -1,7 +1,7 @@
 use Rattle.std.specs.Prelude.{length}
 use Rattle.std.proofs.Common.{◌≡◌, ◌≤◌, List, ◌∷◌, ◌++◌, ◌∙◌, [], ap, subst, sym}
-use Rattle.cil_known.specs.blocks.Space.{Space}
-use Rattle.cil_known.specs.blocks.Namespaces.{space_at}
+use Rattle.cil_known.specs.macros.blocks.Space.{Space}
+use Rattle.cil_known.specs.macros.blocks.Namespaces.{space_at}
 use Rattle.cil_faults.specs.Reported.{fault_at, spelled_fault}
 use Rattle.cil_faults.specs.Namespaces.{qualified}
 use Rattle.cil_known.specs.macros.Items.{item_at, items_in}

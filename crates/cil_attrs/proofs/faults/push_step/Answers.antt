@@ -1,8 +1,8 @@
 use Rattle.std.specs.Prelude.{length, Some}
 use Rattle.std.proofs.Common.{◌≡◌, ◌≤◌, ℕ, List, ◌∷◌, ◌++◌, ◌∙◌, [], ap, subst, sym}
 use Rattle.std.proofs.lemmas.Option.{none-some}
-use Rattle.cil_known.specs.blocks.Space.{Space}
-use Rattle.cil_known.specs.blocks.Namespaces.{space_at}
+use Rattle.cil_known.specs.macros.blocks.Space.{Space}
+use Rattle.cil_known.specs.macros.blocks.Namespaces.{space_at}
 use Rattle.cil_faults.specs.declared.code.FaultCode.TheVariants as causes
 use Rattle.cil_faults.specs.Reported.{fault_at, spelled_fault}
 use Rattle.cil_faults.specs.Namespaces.{qualified}
