@@ -14,10 +14,10 @@ use Rattle.cil_base.specs.Lists.{Lists, text_cmp, one_list, all_at}
 use Rattle.cil_syntax.specs.declared.kind.Kind.TheVariants as kinds
 use Rattle.cil_table_bytes.specs.classes.Class.{Class}
 use Rattle.cil_table_bytes.specs.tables.Agrees.{Compiles}
-use Rattle.cil_table_bytes.specs.names.Declarations.{Declared}
+use Rattle.cil_table_bytes.specs.names_crate.Declarations.{Declared}
 use Rattle.cil_table_bytes.proofs.tables_lemmas.CompileLemmas.{policy_moved}
 use Rattle.cil_table_bytes.specs.tables.Meaning.{IsClassAt, IsPermissionAt}
-use Rattle.cil_table_bytes.specs.names.Resolves.{has_permission}
+use Rattle.cil_table_bytes.specs.names_crate.Resolves.{has_permission}
 use Rattle.cil_table_bytes.specs.tables.Table.{Table}
 use Rattle.cil_table_bytes.specs.classes.Row.{class_cmp}
 use Rattle.cil_host.specs.Machine.{OfLoaded, State}

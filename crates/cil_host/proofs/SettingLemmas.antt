@@ -18,7 +18,7 @@ use Rattle.cil_base.specs.Places.{get_at, get_contains, none_some}
 use Rattle.cil_base.proofs.SearchLemmas.{one_number}
 use Rattle.cil_syntax.specs.declared.kind.Kind.TheVariants as kinds
 use Rattle.cil_syntax.specs.Spelling.{same_bytes}
-use Rattle.cil_table_bytes.specs.names.Declarations.{name_of}
+use Rattle.cil_table_bytes.specs.names_crate.Declarations.{name_of}
 use Rattle.cil_table_bytes.specs.conditions.Bits.{IsOn, is_on, is_one}
 use Rattle.cil_table_bytes.specs.conditions.Spelled.{AreSameSettings}
 use Rattle.cil_table_bytes.proofs.classes_lemmas.BitLemmas.{set_is_one}

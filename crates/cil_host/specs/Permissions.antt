@@ -3,9 +3,9 @@ use Rattle.std.specs.Prelude.{◌≡◌, ◌↔◌, ℕ, ◌<◌, true, List, sl
 use Rattle.std.specs.declared.cmp.Ordering.TheVariants.{Less}
 use Rattle.cil_base.specs.Lists.{Lists, text_cmp}
 use Rattle.cil_syntax.specs.declared.kind.Kind.TheVariants as kinds
-use Rattle.cil_table_bytes.specs.names.Declarations.{Declared, Symbol, name_of}
+use Rattle.cil_table_bytes.specs.names_crate.Declarations.{Declared, Symbol, name_of}
 use Rattle.cil_table_bytes.specs.macros.Item.{Item, OptSet}
-use Rattle.cil_table_bytes.specs.names.Resolves.{has_permission}
+use Rattle.cil_table_bytes.specs.names_crate.Resolves.{has_permission}
 use Rattle.cil_table_bytes.specs.optionals.Policy.{ArePolicy}
 use Rattle.cil_host.specs.Machine.{OfLoaded, State}
 

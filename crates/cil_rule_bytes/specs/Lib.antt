@@ -8,4 +8,4 @@ pub mod Sections
 pub mod Spelled
 pub mod index_crate
 pub mod rules
-pub mod conditions
+pub mod conditions_crate

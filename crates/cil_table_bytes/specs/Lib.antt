@@ -8,6 +8,6 @@ pub mod classes
 pub mod tables
 pub mod conditions
 pub mod macros
-pub mod names
+pub mod names_crate
 pub mod optionals
 pub mod format
