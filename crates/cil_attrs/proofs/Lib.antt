@@ -21,6 +21,6 @@ pub mod ToldLemmas
 pub mod ValueLemmas
 pub mod ValueWithinLemmas
 pub mod WholeLemmas
-pub use Rattle.cil_known.proofs as known_lemmas
-pub use Rattle.cil_known.proofs.names_lemmas as names_lemmas
-pub use Rattle.cil_known.proofs.macros_lemmas
+pub mod macros_lemmas
+pub mod names_lemmas
+pub mod known_lemmas

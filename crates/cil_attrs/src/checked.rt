@@ -28,9 +28,7 @@ use crate::order::{cycles_of_sets, ranked};
 use crate::plain::all_plain;
 use crate::space::{Limit, Space};
 use cil_base::{Bytes, NoMemory};
-use cil_known::Known;
-use cil_known::macros::Instances;
-use cil_known::names::laws;
+use cil_known::{Instances, Known, names_laws as laws};
 use cil_syntax::{Failure, Sign};
 use std::alloc::Global;
 

@@ -11,9 +11,8 @@ ghost use Rattle.cil_known.specs.names.Entries.{AreEntries, is_in};
 ghost use Rattle.cil_attrs.specs.Targets.{IsToldAt, IsToldIn};
 
 use cil_base::NoMemory;
-use cil_known::macros::Instances;
-use cil_known::macros::blocks::spelled::spelled;
-use cil_known::names::Lookup;
+use cil_known::blocks_spelled::spelled;
+use cil_known::{Instances, Lookup};
 use cil_syntax::{DeclaredName, Fault, FaultCode, Keyword, Kind, Sign, push_fault_in};
 use std::alloc::Global;
 

@@ -18,8 +18,7 @@ ghost use Rattle.cil_attrs.specs.Evaluated.{as_way, BeginWith, BeginWithAll, end
 
 use crate::way::{Way, joining_of, way_of};
 use cil_base::NoMemory;
-use cil_known::names::{Meaning, laws};
-use cil_known::{behind_first, meaning_at};
+use cil_known::{Meaning, behind_first, meaning_at, names_laws as laws};
 use cil_sets::{Joining, Numbers};
 use cil_syntax::Term;
 use std::alloc::Global;

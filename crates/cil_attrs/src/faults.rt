@@ -29,10 +29,8 @@ use crate::space::Limit;
 use crate::targets::{Step, lasts_of, open_flags, steps_of, twice_flags};
 use cil_base::{Bytes, NoMemory};
 use cil_faults::Spot;
-use cil_known::Known;
-use cil_known::macros::Instances;
-use cil_known::macros::blocks::spelled::spelled;
-use cil_known::names::Lookup;
+use cil_known::blocks_spelled::spelled;
+use cil_known::{Instances, Known, Lookup};
 use cil_syntax::{Failure, Fault, FaultCode, Kind, Sign, push_fault, push_fault_in, refuse};
 use std::alloc::Global;
 

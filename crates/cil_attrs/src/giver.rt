@@ -19,9 +19,9 @@ ghost use Rattle.cil_attrs.specs.Holding.{is_kind};
 
 use crate::making::Given;
 use cil_base::NoMemory;
-use cil_known::macros::Instances;
-use cil_known::names::{Meaning, laws, same_keyword};
-use cil_known::{Known, behind_first, meaning_at};
+use cil_known::{
+    Instances, Known, Meaning, behind_first, meaning_at, names_laws as laws, same_keyword,
+};
 use cil_syntax::{Keyword, Kind, Term, word_and_terms};
 use std::alloc::Global;
 

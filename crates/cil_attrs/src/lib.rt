@@ -29,8 +29,9 @@ mod targets;
 mod way;
 
 pub use checked::members;
-pub use cil_known as known;
-pub use cil_known::{macros, names};
+pub use cil_known::{
+    Entry, Instances, Known, Meaning, Sections, behind_first, meaning_at, names_laws, same_keyword,
+};
 pub use declared::{Told, declares, push_declared};
 pub use evaluator::{Evaluator, Held};
 pub use faults::check_sets;

@@ -10,7 +10,7 @@ ghost use Rattle.cil_attrs.specs.Made.{AreInOrder, AreSetsAt, HaveMeanings, IsGi
 
 use crate::evaluator::{Evaluator, Held};
 use cil_base::NoMemory;
-use cil_known::names::Meaning;
+use cil_known::Meaning;
 use cil_sets::Numbers;
 use cil_syntax::Term;
 use std::alloc::Global;

@@ -16,7 +16,7 @@ ghost use Rattle.cil_attrs.specs.Standing.{AreAllBelow, AreBelow};
 
 use crate::evaluator::Held;
 use cil_base::NoMemory;
-use cil_known::names::laws;
+use cil_known::names_laws as laws;
 use cil_sets::{Joining, Numbers};
 use std::alloc::Global;
 

@@ -16,9 +16,7 @@ ghost use Rattle.cil_attrs.specs.Targets.{AreLast, AreSteps, HasOther, IsFlagged
 use crate::giver::{SetKind, SpaceKinds, givens_of, is_same_kind};
 use crate::making::Given;
 use cil_base::NoMemory;
-use cil_known::macros::Instances;
-use cil_known::names::{Entry, laws};
-use cil_known::{Known, meaning_at};
+use cil_known::{Entry, Instances, Known, meaning_at, names_laws as laws};
 use cil_syntax::{Kind, Term};
 use std::alloc::Global;
 

@@ -1,4 +1,5 @@
 mod CacheLemmas
 mod Keys
 pub mod TrueCache
-pub use Rattle.cil_decide.proofs as decide_lemmas
+pub mod neverallow_lemmas
+pub mod decide_lemmas

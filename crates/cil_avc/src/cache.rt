@@ -9,11 +9,7 @@ ghost use Rattle.cil_avc.specs.Cache.{IsTrueFor, Uses};
 
 use crate::key::Key;
 use cil_base::NoMemory;
-use cil_decide::classes::ClassId;
-use cil_decide::conditions::Settings;
-use cil_decide::constraints_crate::Context;
-use cil_decide::tables::Tables;
-use cil_decide::{Decision, decide};
+use cil_decide::{ClassId, Context, Decision, Settings, Tables, decide};
 use lru::LruCache;
 use std::alloc::Global;
 use std::hash::BuildHasher;

@@ -3,9 +3,7 @@
 ghost use Rattle.std.specs.Prelude.{◌≡◌, fold};
 ghost use Rattle.cil_avc.specs.Hashed.{context_writes, level_number, mixed};
 
-use cil_decide::classes::ClassId;
-use cil_decide::constraints_crate::Context;
-use cil_decide::mls::Level;
+use cil_decide::{ClassId, Context, Level};
 use std::hash::{Hash, Hasher};
 
 /// What a decision is asked for. Two keys are equal where all their numbers and categories are. The SELinux Notebook, "Computing

@@ -11,5 +11,10 @@ mod cache;
 mod key;
 
 pub use cache::Avc;
-pub use cil_decide as decide;
+pub use cil_decide::{
+    Asked, ClassId, Compiled, Context, Decision, NamedRule, NamedRules, OptionalLine, Reach,
+    Sections, Settings, Tables, WhyLine, boolean_named, class_named, compile, covers, decide,
+    defaults, laws as decide_laws, parse_context, permission_at, permission_named, permissions_of,
+    tables_laws,
+};
 pub use key::Key;

@@ -22,5 +22,5 @@ pub mod TiedLemmas
 pub mod ValueExamples
 pub mod ValueLemmas
 pub mod WidthLemmas
-pub use Rattle.cil_known.proofs as known_lemmas
-pub use Rattle.cil_names.proofs as names_lemmas
+pub mod names_lemmas
+pub mod known_lemmas

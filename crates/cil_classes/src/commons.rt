@@ -11,8 +11,7 @@ ghost use Rattle.cil_names.specs.declared.shared.Shared.{Shared as APair};
 ghost use Rattle.cil_classes.specs.Commons.{IsBeside, IsFirst, IsFlagged, IsJoinedAt, IsTwice, cause_of};
 
 use cil_base::NoMemory;
-use cil_macros::Instances;
-use cil_macros::blocks::ScopeList;
+use cil_macros::{Instances, ScopeList};
 use cil_names::{Names, Shared, shared_at};
 use cil_syntax::{FaultCode, Spot};
 use std::alloc::Global;

@@ -30,8 +30,8 @@ mod rows;
 mod widths;
 
 pub use checked::classes;
-pub use cil_known as known;
-pub use cil_names as names;
+pub use cil_known::{Known, behind, behind_first, meaning_at};
+pub use cil_names::{Meaning, same_keyword};
 pub use held::{ClassMasks, GivenPermissions, given_permissions};
 pub use nodes::Node;
 pub use perms::{expand_perms, push_perms};

@@ -14,7 +14,7 @@ use crate::commons::{Wrong, cause_of, class_word, flags_of_two, joined_at};
 use crate::limit::push_many;
 use cil_base::NoMemory;
 use cil_macros::Instances;
-use cil_macros::blocks::spelled::spelled;
+use cil_macros::blocks_spelled::spelled;
 use cil_names::{Lookup, Shared, is_set};
 use cil_syntax::{Bytes, Failure, Fault, Sign, push_fault_in, refuse};
 use std::alloc::Global;

@@ -9,4 +9,5 @@ pub mod PlaceLemmas
 pub mod SettingLemmas
 pub mod ValueLemmas
 pub mod WalkLemmas
-pub use Rattle.cil_known.proofs as known_lemmas
+pub mod known_lemmas
+pub mod names_lemmas

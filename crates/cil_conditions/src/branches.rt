@@ -17,8 +17,7 @@ ghost use Rattle.cil_conditions.specs.Order.{branch_cmp};
 use crate::branch::Branch;
 use crate::found::{Found, found_in};
 use cil_base::{NoMemory, short};
-use cil_known::Known;
-use cil_known::macros::Instances;
+use cil_known::{Instances, Known};
 use std::alloc::Global;
 use std::marker::Model;
 

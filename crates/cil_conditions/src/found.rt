@@ -14,9 +14,7 @@ use crate::branch::Branch;
 use crate::condition::Cond;
 use crate::walk::push_condition;
 use cil_base::{NoMemory, short};
-use cil_known::Known;
-use cil_known::macros::Instances;
-use cil_known::names::Meaning;
+use cil_known::{Instances, Known, Meaning};
 use cil_syntax::{Keyword, Statement, Term};
 use std::alloc::Global;
 

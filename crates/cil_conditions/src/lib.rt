@@ -19,7 +19,7 @@ mod walk;
 
 pub use branch::Branch;
 pub use branches::{Branches, branches_of};
-pub use cil_known as known;
+pub use cil_known::{Known, behind, behind_first, meaning_at};
 pub use condition::{Cond, is_expression};
 pub use settings::{MOST_BOOLEANS, Settings};
 pub use token::Token;

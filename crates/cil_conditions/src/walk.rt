@@ -8,8 +8,7 @@ ghost use Rattle.cil_conditions.specs.Walk.{IsAdded, IsFormAdded, IsFormUnsaid, 
 
 use crate::token::Token;
 use cil_base::{NoMemory, short};
-use cil_known::names::Meaning;
-use cil_known::{Known, behind_first, meaning_at};
+use cil_known::{Known, Meaning, behind_first, meaning_at};
 use cil_syntax::{Kind, Op, Term};
 
 /// Adds the tokens of a term of a statement of this module, by meanings that begin with those of its words, and answers the meanings

@@ -8,3 +8,4 @@ mod Rows
 pub mod SpelledLemmas
 mod StepLemmas
 pub mod WithinLemmas
+pub mod classes_lemmas

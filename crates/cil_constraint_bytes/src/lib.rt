@@ -14,6 +14,6 @@ mod put;
 mod steps;
 
 pub use bounds::Bounds;
-pub use cil_constraints as constraints_crate;
+pub use cil_constraints::Constraint;
 pub use constraints::{constraint_at, constraints_at};
 pub use put::put_constraints;

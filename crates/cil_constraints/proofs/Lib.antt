@@ -16,3 +16,4 @@ mod StepLists
 mod GatherLemmas
 mod StatedLemmas
 mod AlikeLemmas
+pub mod classes_lemmas

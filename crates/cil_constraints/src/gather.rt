@@ -20,8 +20,7 @@ use crate::mask::Constraint;
 use crate::push::Standing;
 use crate::statement::push_constraints;
 use cil_base::NoMemory;
-use cil_classes::known::Known;
-use cil_classes::{Class, GivenPermissions};
+use cil_classes::{Class, GivenPermissions, Known};
 use cil_macros::Instances;
 use std::alloc::Global;
 

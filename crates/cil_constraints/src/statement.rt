@@ -24,9 +24,9 @@ use crate::mask::Constraint;
 use crate::push::{Standing, push_said};
 use crate::step::Step;
 use cil_base::NoMemory;
-use cil_classes::known::{Known, behind};
-use cil_classes::names::{Meaning, same_keyword};
-use cil_classes::{Class, ClassId, GivenPermissions, push_perms};
+use cil_classes::{
+    Class, ClassId, GivenPermissions, Known, Meaning, behind, push_perms, same_keyword,
+};
 use cil_macros::Instances;
 use cil_syntax::{Keyword, Statement, Term};
 use std::alloc::Global;

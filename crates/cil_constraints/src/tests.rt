@@ -6,7 +6,7 @@ use crate::expr::{Context, Expr, truth_at};
 use crate::mask::{Constraint, permitted};
 use crate::push::{Standing, push_said};
 use crate::step::{Equality, LevelPair, Part, Relation, Side, Step};
-use cil_classes::names::Meaning;
+use cil_classes::Meaning;
 use cil_mls::{Categories, Level};
 use cil_sets::Numbers;
 use cil_syntax::{Excerpt, LookedUp, Op, Sign, Term};

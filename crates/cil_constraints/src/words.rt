@@ -5,8 +5,7 @@ ghost use Rattle.cil_classes.specs.known.Known.{set_meant};
 ghost use Rattle.cil_constraints.specs.Walk.{AreListedAdded, AreWordsAdded, IsSetOf, IsUnited, IsWordAdded};
 
 use cil_base::NoMemory;
-use cil_classes::known::{behind, behind_first, meaning_at};
-use cil_classes::names::Meaning;
+use cil_classes::{Meaning, behind, behind_first, meaning_at};
 use cil_sets::{Joining, Numbers};
 use cil_syntax::Term;
 use std::alloc::Global;

@@ -4,8 +4,7 @@ ghost use Rattle.std.specs.Prelude.{◌<◌, ◌↔◌, ℕ, IfNone, IfSome};
 ghost use Rattle.cil_tables.specs.conditions.Bits.{IsOn};
 ghost use Rattle.cil_decide.specs.Decides.{IsBooleanAt, IsOnAtFirst};
 
-use cil_tables::Tables;
-use cil_tables::conditions::Settings;
+use cil_tables::{Settings, Tables};
 
 /// The number of the boolean of this name, below 4,096; none where no boolean has it. (CIL Reference Guide, "boolean".) It takes no
 /// memory.

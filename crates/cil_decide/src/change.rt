@@ -8,8 +8,7 @@ ghost use Rattle.cil_decide.specs.Changes.{BarsRow, IsMaskOf, IsNotLet, IsTransi
 ghost use Rattle.cil_tables.specs.Meaning.{process};
 
 use cil_base::{Bytes, number_of};
-use cil_tables::classes::Class;
-use cil_tables::{Link, Links};
+use cil_tables::{Class, Link, Links};
 
 /// The permissions of a class that would change the role of a process from one to another to which it may not change: `transition` and
 /// `dyntransition` of the global class `process`, where the roles differ and no enabled `roleallow` has the two. (CIL Reference

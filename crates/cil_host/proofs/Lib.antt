@@ -5,5 +5,5 @@ pub mod ListLemmas
 pub mod PermissionLemmas
 pub mod SettingLemmas
 pub mod StateLemmas
-pub use Rattle.cil_avc.proofs as avc_lemmas
-pub use Rattle.cil_table_bytes.proofs.tables_lemmas
+pub mod neverallow_lemmas
+pub mod avc_lemmas

@@ -14,18 +14,15 @@ ghost use Rattle.cil_host.specs.Sets.{Sets};
 use crate::fault::{HostError, QueryFault};
 use crate::lines::{copied_optionals, copied_reasons};
 use crate::listing::{ListLine, lines_of};
-use cil_avc::Avc;
-use cil_avc::decide::{
-    Decision, Settings, boolean_named, class_named, defaults, laws, parse_context, permission_at,
-    permission_named, permissions_of,
+use cil_avc::{
+    Avc, Decision, Settings, boolean_named, class_named, decide_laws as laws, defaults,
+    parse_context, permission_at, permission_named, permissions_of,
 };
 use cil_base::{Bytes, NoMemory};
 use cil_faults::Failure;
 use cil_modset::{BundleError, Installed, ModuleSet};
 use cil_sexpr::ReadError;
-use cil_table_bytes::measure;
-use cil_table_bytes::optionals::{OptionalLine, WhyLine};
-use cil_table_bytes::tables::{Compiled, compile};
+use cil_table_bytes::{Compiled, OptionalLine, WhyLine, compile, measure};
 use std::alloc::Global;
 use std::hash::BuildHasher;
 use std::marker::Model;

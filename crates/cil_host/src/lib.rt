@@ -9,13 +9,15 @@ mod host;
 mod lines;
 mod listing;
 
-pub use cil_avc as avc;
-pub use cil_avc::decide;
-pub use cil_faults as faults;
-pub use cil_modset as modset;
-pub use cil_sexpr as sexpr;
+pub use cil_avc::{
+    Asked, Avc, ClassId, Compiled, Context, Decision, NamedRule, NamedRules, OptionalLine, Reach,
+    Sections, Tables, WhyLine, boolean_named, class_named, compile, covers, decide, defaults,
+    parse_context, permission_at, permission_named, tables_laws,
+};
+pub use cil_faults::{Failure, FaultList};
+pub use cil_modset::{BundleError, BundleFault, Installed, laws as modset_laws};
+pub use cil_sexpr::{ReadError, ReadFault, laws as sexpr_laws};
 pub use cil_syntax::Excerpt;
-pub use cil_table_bytes::{optionals, tables};
 pub use fault::{HostError, QueryFault};
 pub use host::{Host, Loaded};
 pub use listing::ListLine;

@@ -3,7 +3,7 @@
 ghost use Rattle.std.specs.Prelude.{◌≡◌, IfOk};
 
 use cil_base::{Bytes, NoMemory};
-use cil_table_bytes::optionals::{OptionalLine, WhyLine};
+use cil_table_bytes::{OptionalLine, WhyLine};
 use std::alloc::Global;
 
 /// A copy of the lines of optionals. Error: out of memory.

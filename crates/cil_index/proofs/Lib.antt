@@ -11,7 +11,7 @@ mod RisingLemmas
 mod RunLemmas
 mod SetLemmas
 mod StartLemmas
-pub use Rattle.cil_rules.proofs.classes_lemmas
-pub use Rattle.cil_rules.proofs as rules_lemmas
-pub use Rattle.cil_rules.proofs.conditions_lemmas
-pub use Rattle.cil_rules.proofs.names_lemmas
+pub mod classes_lemmas
+pub mod rules_lemmas
+pub mod names_lemmas
+pub mod conditions_lemmas

@@ -10,7 +10,7 @@ use crate::key::{BEYOND, ITSELF, SEVERAL, aim, class_key, small_sets, type_key};
 use crate::memberships::{Memberships, WORDS, has_bit};
 use crate::record::Record;
 use crate::sets::Sets;
-use cil_rules::conditions::Branch;
+use cil_rules::Branch;
 
 /// The rules that are searched, by their records, which stand in the order of the index.
 #[derive(Clone, Copy)]

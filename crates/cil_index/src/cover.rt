@@ -15,7 +15,7 @@ use crate::index::{Bounds, Index};
 use crate::key::type_key;
 use crate::matches::mask_known;
 use crate::search::near_start;
-use cil_rules::conditions::Settings;
+use cil_rules::Settings;
 
 /// The permissions that the rules cover, by their index. It takes no memory: for the target, for each set that has the source, and for each large one, it
 /// costs a step for each aim of a part of this heading, or two searches where these are many, and a test of each rule that may be on both types.

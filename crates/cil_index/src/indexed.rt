@@ -17,8 +17,7 @@ use crate::key::Entry;
 use crate::record::{Record, records_of};
 use crate::sets::Sets;
 use cil_base::{NoMemory, short};
-use cil_rules::NamedRule;
-use cil_rules::conditions::Branch;
+use cil_rules::{Branch, NamedRule};
 use std::alloc::Global;
 
 /// Rules of one kind. Their records stand in the order of the index: the record of an aim has the place of the aim, and those under a heading are side by

@@ -24,7 +24,9 @@ mod section;
 mod sets;
 
 pub use asked::Asked;
-pub use cil_rules as rules;
-pub use cil_rules::{classes, conditions, known};
+pub use cil_rules::{
+    Branches, Class, ClassId, GivenPermissions, Known, MOST_BOOLEANS, NamedRule, Reach, Settings,
+    branches_of, covers, push_rules, rules,
+};
 pub use listed::{ListedRule, ListedRules, ListedTarget, TypeSet};
 pub use section::{NamedRules, Sections};

@@ -9,7 +9,7 @@ ghost use Rattle.cil_index.specs.Sections.{rules_of};
 
 use crate::indexed::Indexed;
 use crate::sets::Sets;
-use cil_rules::conditions::Branch;
+use cil_rules::Branch;
 use cil_sets::Numbers;
 use std::marker::Model;
 

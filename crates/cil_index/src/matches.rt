@@ -13,7 +13,7 @@ ghost use Rattle.cil_index.specs.Sets.{set_of};
 
 use crate::asked::{Asked, Searched};
 use crate::record::Record;
-use cil_rules::conditions::{Branch, Settings};
+use cil_rules::{Branch, Settings};
 
 /// The permissions of the rule at a place, where it is on what is asked.
 pub fn mask_at(searched: &Searched, settings: &Settings, asked: &Asked, place: usize) -> u32

@@ -14,8 +14,7 @@ ghost use Rattle.cil_index.specs.Order.{AreWithin, IsWithin, record_cmp, record_
 ghost use Rattle.cil_index.specs.Sets.{AreNumbered};
 
 use cil_base::NoMemory;
-use cil_rules::conditions::Branch;
-use cil_rules::{NamedRule, Reach};
+use cil_rules::{Branch, NamedRule, Reach};
 use std::alloc::Global;
 use std::cmp::Ordering;
 

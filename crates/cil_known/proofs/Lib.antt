@@ -8,5 +8,5 @@ pub mod Qualified
 pub mod SpelledLemmas
 pub mod StandLemmas
 pub mod StandingLemmas
-pub use Rattle.cil_names.proofs.macros_lemmas
-pub use Rattle.cil_names.proofs as names_lemmas
+pub mod macros_lemmas
+pub mod names_lemmas

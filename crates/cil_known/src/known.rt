@@ -10,8 +10,7 @@ ghost use Rattle.cil_known.specs.Numbers.{has_section};
 ghost use Rattle.cil_known.specs.Members.{HasNoSets};
 ghost use Rattle.cil_known.specs.Known.{IsKnown, IsNumberFor, StandsForNothing, enabled_in, meant_in};
 
-use cil_names::macros::Instances;
-use cil_names::{Lookup, Meaning, Words, laws, same_kind};
+use cil_names::{Instances, Lookup, Meaning, Words, laws, same_kind};
 use cil_syntax::{Bytes, Kind};
 
 /// What is known of the words of a policy: what each means, and the number of each symbol that they can mean.

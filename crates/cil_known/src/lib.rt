@@ -18,8 +18,9 @@ mod meanings_behind;
 mod numbers;
 pub mod spelled;
 
-pub use cil_names as names;
-pub use cil_names::macros;
+pub use cil_names::{
+    Entry, Instances, Lookup, Meaning, blocks_spelled, laws as names_laws, same_keyword,
+};
 pub use known::{Known, meaning_at};
 pub use meanings_behind::{behind, behind_first, behind_word};
 pub use numbers::{Numbering, Sections, numbered};

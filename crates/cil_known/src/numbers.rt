@@ -10,8 +10,7 @@ ghost use Rattle.cil_known.specs.Numbers.{AreApart, AreNumbers, ArePlainNames, I
 
 use crate::spelled::spelled;
 use cil_base::NoMemory;
-use cil_names::blocks::Namespaces;
-use cil_names::{Entry, Lookup, OptSet, place_among};
+use cil_names::{Entry, Lookup, Namespaces, OptSet, place_among};
 use cil_syntax::{Bytes, Kind};
 use std::alloc::Global;
 

@@ -5,8 +5,8 @@ ghost use Rattle.cil_faults.specs.Namespaces.{qualified};
 ghost use Rattle.cil_names.specs.blocks.Namespaces.{space_at};
 
 use cil_base::NoMemory;
-use cil_names::blocks::Namespaces;
-use cil_names::blocks::spelled::spelled as spelled_space;
+use cil_names::Namespaces;
+use cil_names::blocks_spelled::spelled as spelled_space;
 use cil_syntax::Bytes;
 use std::alloc::Global;
 

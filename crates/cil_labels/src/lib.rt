@@ -12,5 +12,6 @@ mod labels;
 #[cfg(test)]
 mod tests;
 
+pub use cil_mls::{Members, Roles, Types, Users, members, standing_of};
 pub use label::Label;
 pub use labels::{LabelParts, Labels};

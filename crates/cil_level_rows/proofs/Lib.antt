@@ -7,5 +7,5 @@ pub mod NoLevels
 pub mod OneFaultLemmas
 pub mod OneTableLaws
 pub mod TableLemmas
-pub use Rattle.cil_mls.proofs as mls_lemmas
-pub use Rattle.cil_ranges.proofs as ranges_lemmas
+pub mod mls_lemmas
+pub mod ranges_lemmas

@@ -19,12 +19,12 @@ ghost use Rattle.cil_level_rows.specs.Rows.{IsAliasRow};
 use cil_base::NoMemory;
 use cil_known::spelled::spelled;
 use cil_known::{Known, Sections};
-use cil_macros::Instances;
-use cil_macros::blocks::Namespaces;
+use cil_macros::{Instances, Namespaces};
 use cil_mls::{Named, Orders};
 use cil_names::Entry;
-use cil_ranges::attrs::{Categories, Sensitivities, members, standing_of};
-use cil_ranges::levels_crate::{inverse_of, place_at};
+use cil_ranges::{
+    CategorySpace as Categories, Sensitivities, inverse_of, members, place_at, standing_of,
+};
 use cil_sets::Numbers;
 use cil_syntax::Kind;
 use std::alloc::Global;

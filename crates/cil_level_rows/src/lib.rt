@@ -16,8 +16,7 @@ mod rows;
 mod users;
 mod words;
 
-pub use cil_labels as labels;
-pub use cil_mls as mls;
-pub use cil_ranges as ranges;
-pub use cil_ranges::{attrs, levels_crate};
+pub use cil_labels::{Labels, Members, Roles, Types, Users, members, standing_of};
+pub use cil_mls::{Level, Orders, is_switched, orders, parted};
+pub use cil_ranges::{Levels, category_values, levels_of, permitted};
 pub use policy::labels_of;

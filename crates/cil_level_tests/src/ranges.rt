@@ -17,7 +17,7 @@ use cil_macros::Instances;
 use cil_mls::{Level, MOST_CATEGORIES, Orders, Range};
 use cil_names::Entry;
 use cil_syntax::Failure;
-use cil_tables::ranges::{Levels, levels_of};
+use cil_tables::{Levels, levels_of};
 use std::alloc::Global;
 
 /// Behind each text: `s` is below `t`, `a` to `c` are in this order, and `c` may not go with `s`.

@@ -15,8 +15,7 @@ ghost use Rattle.cil_levels.specs.Made.{in_second};
 use cil_base::NoMemory;
 use cil_known::Known;
 use cil_macros::Instances;
-use cil_mls::attrs::are_plain;
-use cil_mls::{Categories, Evaluator, value};
+use cil_mls::{Categories, Evaluator, are_plain, value};
 use cil_names::Meaning;
 use cil_syntax::Term;
 

@@ -23,6 +23,7 @@ mod permits;
 mod sensitivities;
 mod values;
 
+pub use cil_mls::{CategorySpace, Sensitivities, members, standing_of};
 pub use inverse::{inverse_of, place_at};
 pub use permits::permitted;
 pub use sensitivities::sensitivity_places;

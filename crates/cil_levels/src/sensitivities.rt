@@ -13,8 +13,7 @@ use crate::inverse::{inverse_of, place_at};
 use cil_base::NoMemory;
 use cil_known::{Known, Sections};
 use cil_macros::Instances;
-use cil_mls::Orders;
-use cil_mls::attrs::{Sensitivities, members, standing_of};
+use cil_mls::{Orders, Sensitivities, members, standing_of};
 use cil_sets::Numbers;
 use std::alloc::Global;
 

@@ -18,7 +18,7 @@ use crate::told::Told;
 use cil_base::NoMemory;
 use cil_faults::{Failure, FaultList};
 use cil_modset::ModuleSet;
-use cil_server::tables::{Compiled, compile};
+use cil_server::{Compiled, compile};
 use cil_sexpr::ReadFault;
 use std::alloc::Global;
 

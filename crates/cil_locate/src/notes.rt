@@ -12,8 +12,7 @@ use crate::lines::{put_note, put_place};
 use crate::telling::{Last, file_of};
 use crate::told::{Told, in_order};
 use cil_base::NoMemory;
-use cil_server::optionals::WhyLine;
-use cil_server::{Output, Sink};
+use cil_server::{Output, Sink, WhyLine};
 use std::alloc::Global;
 
 /// The optionals that are left out, in the order of the files and of their places. Errors: out of memory.

@@ -62,4 +62,4 @@ pub mod WalkLemmas
 pub mod WordValues
 pub mod WordsOfTexts
 pub mod WrittenLemmas
-pub use Rattle.cil_blocks.proofs as blocks_lemmas
+pub mod blocks_lemmas

@@ -43,7 +43,7 @@ pub mod walk;
 
 pub use arguments::{arguments_fit, is_of_kind};
 pub use branches::Branch;
-pub use cil_blocks as blocks;
+pub use cil_blocks::{Namespaces, ScopeList, spelled as blocks_spelled};
 pub use declared_names::{Declared, declared_in_bodies};
 pub use expansion::expand;
 pub use instances::Instances;

@@ -21,4 +21,4 @@ pub mod SymbolLemmas
 pub mod ValueLemmas
 pub mod WordLemmas
 pub mod WordListLemmas
-pub use Rattle.cil_attrs.proofs as attrs_lemmas
+pub mod attrs_lemmas

@@ -16,10 +16,9 @@ ghost use Rattle.cil_mls.specs.CategorySets.{CircularSet};
 ghost use Rattle.cil_mls.specs.Pairs.{LeadMore};
 ghost use Rattle.cil_mls.specs.SetEdges.{AreCircularSets, DeclaresJust, DeclaresNone, IsSetEdge, IsSetEdgeIn, is_set, is_set_at};
 
-use cil_attrs::known::Known;
-use cil_attrs::macros::Instances;
-use cil_attrs::names::{Entry, Meaning, laws};
-use cil_attrs::{Told, are_plain, declares, push_declared};
+use cil_attrs::{
+    Entry, Instances, Known, Meaning, Told, are_plain, declares, names_laws as laws, push_declared,
+};
 use cil_base::NoMemory;
 use cil_faults::{Failure, FaultCode, refuse};
 use cil_settle::{Edge, cycles_of};

@@ -10,8 +10,7 @@ ghost use Rattle.cil_mls.specs.Bits.{in_words, is_between};
 ghost use Rattle.cil_mls.specs.Values.{AreJoined, AreNotTwo, AreTwoWords, IsFew, IsFormed, IsLeaf, IsNoLeaf, IsValue, end_of, held_between, in_span, is_held, join_of, meant_held, start_of, way_as};
 
 use crate::categories::{Categories, MOST_CATEGORIES};
-use cil_attrs::known::{behind_first, meaning_at};
-use cil_attrs::names::Meaning;
+use cil_attrs::{Meaning, behind_first, meaning_at};
 use cil_syntax::{Op, Term};
 
 /// What a word that names an entry stands for.

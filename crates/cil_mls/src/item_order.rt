@@ -17,9 +17,9 @@ ghost use Rattle.cil_mls.specs.Ordering.{AreNumbered, HasNoOrder, IsNumberedOrde
 
 use crate::order::order_of;
 use crate::pairs::pairs_of;
-use cil_attrs::known::{Known, Sections};
-use cil_attrs::macros::Instances;
-use cil_attrs::{Categories, Members, Sensitivities, members, standing_of};
+use cil_attrs::{
+    Categories, Instances, Known, Members, Sections, Sensitivities, members, standing_of,
+};
 use cil_base::{Bytes, NoMemory};
 use cil_faults::Failure;
 use cil_sets::Numbers;

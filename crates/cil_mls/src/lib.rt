@@ -38,7 +38,10 @@ mod words;
 
 pub use categories::{Categories, MOST_CATEGORIES};
 pub use category_sets::{set_declared, set_edges};
-pub use cil_attrs as attrs;
+pub use cil_attrs::{
+    Categories as CategorySpace, Members, Roles, Sensitivities, Told, Types, Users, are_plain,
+    declares, members, push_declared, standing_of,
+};
 pub use expression::{Evaluator, Held, Valued, value};
 pub use in_order::Orders;
 pub use level::{Level, Range};

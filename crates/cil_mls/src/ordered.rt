@@ -19,9 +19,7 @@ use crate::item_order::{category_order, sensitivity_order};
 use crate::level_names::MOST_SENSITIVITIES;
 use crate::policy_faults::{check_limit, ordered, policy_fault};
 use crate::switch::is_switched;
-use cil_attrs::Limit;
-use cil_attrs::known::{Known, Sections};
-use cil_attrs::macros::Instances;
+use cil_attrs::{Instances, Known, Limit, Sections};
 use cil_faults::{Both, Failure, FaultCode, together};
 use std::alloc::Global;
 

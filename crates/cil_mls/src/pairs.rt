@@ -10,9 +10,7 @@ ghost use Rattle.cil_attrs.specs.names.Resolves.{is_mapping};
 ghost use Rattle.cil_attrs.specs.names.Rows.{IsTableOf};
 ghost use Rattle.cil_mls.specs.Pairs.{IsNextBefore, IsPairBy, IsPairIn, LeadMore, are_word_list, are_words, is_listed, is_word, is_word_list};
 
-use cil_attrs::known::Known;
-use cil_attrs::macros::Instances;
-use cil_attrs::names::{Meaning, same_keyword};
+use cil_attrs::{Instances, Known, Meaning, same_keyword};
 use cil_base::NoMemory;
 use cil_sets::Numbers;
 use cil_settle::Edge;

@@ -10,8 +10,7 @@ ghost use Rattle.cil_mls.specs.OrderFaults.{Switches};
 ghost use Rattle.cil_mls.specs.Switch.{is_mls, is_switch, is_switch_term, is_switch_word, switches};
 
 use crate::pairs::only;
-use cil_attrs::known::Known;
-use cil_attrs::macros::Instances;
+use cil_attrs::{Instances, Known};
 use cil_syntax::{Keyword, Op, Term};
 
 /// Whether an enabled `mls` statement turns levels on, or off. It costs a step for each statement.

@@ -26,5 +26,5 @@ pub mod UnresolvedLemmas
 pub mod WordedLemmas
 pub mod WrittenPartLemmas
 pub mod UnscopedLemmas
-pub use Rattle.cil_macros.proofs.blocks_lemmas
-pub use Rattle.cil_macros.proofs as macros_lemmas
+pub mod macros_lemmas
+pub mod blocks_lemmas

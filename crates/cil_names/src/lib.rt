@@ -37,8 +37,7 @@ pub mod worded;
 mod written_parts;
 
 pub use asked::word_asked;
-pub use cil_macros as macros;
-pub use cil_macros::blocks;
+pub use cil_macros::{Instances, Namespaces, blocks_spelled};
 pub use enabled::{flags_of, is_declared};
 pub use entry::Entry;
 pub use guesses::{Guesses, hash_of};

@@ -10,8 +10,8 @@ use crate::entry::Entry;
 use crate::guesses::Guesses;
 use crate::sought::{Sought, seek};
 use cil_base::NoMemory;
+use cil_macros::Namespaces;
 use cil_macros::asked::{asked_in, asked_scope};
-use cil_macros::blocks::Namespaces;
 use cil_syntax::Word;
 
 /// Adds the numbers of the entries that a word could name, whatever is enabled, in the order of its scope. A word that wants

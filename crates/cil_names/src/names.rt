@@ -24,7 +24,7 @@ use crate::opt_set::OptSet;
 use crate::permission_word::class_with;
 use crate::unscoped::{push_in_scope, unscoped_entry};
 use cil_base::NoMemory;
-use cil_macros::blocks::{Namespaces, ScopeList};
+use cil_macros::{Namespaces, ScopeList};
 use cil_syntax::{Bytes, Sign, Word};
 use std::alloc::Global;
 use std::marker::Model;

@@ -26,7 +26,7 @@ use crate::guesses::Guesses;
 use crate::look::resolve;
 use crate::name_places::{place_among, place_guessed};
 use crate::shared::where_always;
-use cil_macros::blocks::Namespaces;
+use cil_macros::Namespaces;
 use cil_syntax::{Bytes, Sign, Word};
 
 /// The number of the class or class map that a class word names. Classes do not hang on optionals, so the word is looked

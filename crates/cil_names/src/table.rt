@@ -6,7 +6,7 @@ ghost use Rattle.cil_names.specs.Rows.{IsTableOf};
 use crate::meaning::Meaning;
 use crate::names::Names;
 use crate::opt_set::OptSet;
-use cil_macros::blocks::Namespaces;
+use cil_macros::Namespaces;
 
 /// What words are looked up in: the namespaces, the declared names, and the optionals that are enabled.
 #[derive(Clone, Copy)]

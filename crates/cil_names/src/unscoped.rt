@@ -14,7 +14,7 @@ use crate::guesses::Guesses;
 use crate::look::{push_candidates, push_listed};
 use crate::namesakes::few_named;
 use cil_base::NoMemory;
-use cil_macros::blocks::{Namespaces, ScopeList};
+use cil_macros::{Namespaces, ScopeList};
 use cil_syntax::{Word, parted};
 
 /// How many namespaces are sooner gone through than asked.

@@ -8,5 +8,5 @@ pub mod SectionLemmas
 pub mod StatementLemmas
 pub mod TieLemmas
 pub mod ViolationLemmas
-pub use Rattle.cil_index.proofs.rules_lemmas
-pub use Rattle.cil_index.proofs.conditions_lemmas
+pub mod rules_lemmas
+pub mod conditions_lemmas

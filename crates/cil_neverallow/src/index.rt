@@ -11,9 +11,7 @@ use crate::forbidden::View;
 use crate::overlap::set_at;
 use crate::statements::Statements;
 use cil_base::NoMemory;
-use cil_index::conditions::Settings;
-use cil_index::rules::{NamedRule, Reach};
-use cil_index::{Asked, NamedRules, Sections};
+use cil_index::{Asked, NamedRule, NamedRules, Reach, Sections, Settings};
 use cil_sets::Numbers;
 use std::alloc::Global;
 

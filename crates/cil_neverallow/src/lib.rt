@@ -15,6 +15,8 @@ mod permissions;
 mod statements;
 mod told;
 
-pub use cil_index as index_crate;
-pub use cil_index::{conditions, rules};
+pub use cil_index::{
+    Asked, Branches, MOST_BOOLEANS, NamedRule, NamedRules, Reach, Sections, Settings, branches_of,
+    covers, rules,
+};
 pub use forbidden::{View, violations};

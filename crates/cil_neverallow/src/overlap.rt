@@ -5,7 +5,7 @@ ghost use Rattle.cil_index.specs.rules.Kept.{rule_named, set_named};
 ghost use Rattle.cil_neverallow.specs.Ends.{AreFirstReached, AreInAll, AreInBoth, AreReached, IsClimb, IsLeastIn, end_at};
 ghost use Rattle.cil_neverallow.specs.Overlaps.{BothHold, IsLeastFor, IsMet, IsOverlap, lesser_of, overlap_cmp, pick};
 
-use cil_index::rules::{NamedRule, Reach};
+use cil_index::{NamedRule, Reach};
 use cil_sets::Numbers;
 use std::cmp::Ordering;
 

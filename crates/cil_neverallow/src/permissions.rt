@@ -4,7 +4,7 @@ ghost use Rattle.std.specs.Prelude.{IfOk, IsFalse};
 ghost use Rattle.cil_neverallow.specs.Permissions.{AreApart, AreIn, AreJoined, IsApart};
 
 use cil_base::NoMemory;
-use cil_index::rules::NamedRule;
+use cil_index::NamedRule;
 use std::alloc::Global;
 
 /// For each of so many classes the permissions that some of these rules name: bit i of the mask is the i-th of the class. Error: out of

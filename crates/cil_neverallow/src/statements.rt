@@ -16,9 +16,7 @@ ghost use Rattle.cil_neverallow.specs.Stated.{AreHereOr, AreKept, IsAdded, IsRun
 
 use crate::permissions::name_some;
 use cil_base::NoMemory;
-use cil_index::classes::{Class, ClassId, GivenPermissions};
-use cil_index::known::Known;
-use cil_index::rules::{NamedRule, push_rules};
+use cil_index::{Class, ClassId, GivenPermissions, Known, NamedRule, push_rules};
 use cil_macros::Instances;
 use cil_sets::Numbers;
 use cil_syntax::Keyword;

@@ -10,9 +10,9 @@ use crate::forbidden::View;
 use crate::overlap::Overlap;
 use cil_base::{Bytes, NoMemory};
 use cil_faults::{Fault, FaultCode, Spot, push_fault_in};
-use cil_index::classes::Class;
+use cil_index::Class;
 use cil_macros::Instances;
-use cil_macros::blocks::spelled::spelled;
+use cil_macros::blocks_spelled::spelled;
 use std::alloc::Global;
 
 /// Reports the neverallow statement at a place and the allow statement at another, which cover this together.

@@ -25,6 +25,6 @@ mod times;
 
 pub use base::base_faults;
 pub use chosen::{Chosen, Counted, check, greatest, greatest_counted, greatest_of};
-pub use cil_words as words;
+pub use cil_words::{asks_of, judged, settled};
 pub use lines::{OptionalLine, WhyLine, optional_lines, why_lines};
 pub use reason::Reason;

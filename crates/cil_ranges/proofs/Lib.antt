@@ -13,4 +13,4 @@ pub mod SameRangeLemmas
 pub mod UserFaultLemmas
 pub mod UserLemmas
 pub mod WalkLemmas
-pub use Rattle.cil_levels.proofs as levels_crate_lemmas
+pub mod levels_crate_lemmas

@@ -9,7 +9,7 @@ ghost use Rattle.cil_ranges.specs.DeclaredEntries.{DeclaresJust, DeclaresNone};
 
 use cil_known::Known;
 use cil_macros::Instances;
-use cil_mls::attrs::declares;
+use cil_mls::declares;
 use cil_syntax::{Kind, Sign};
 
 /// The entry of a kind that the statement at a place declares, if it is an enabled one. The sign is one of words that may name this kind.

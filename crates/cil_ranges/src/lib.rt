@@ -29,8 +29,10 @@ mod users;
 mod walk;
 
 pub use check::push_level_faults;
-pub use cil_levels as levels_crate;
-pub use cil_mls::attrs;
+pub use cil_levels::{
+    CategorySpace, Sensitivities, category_values, inverse_of, members, permitted, place_at,
+    standing_of,
+};
 pub use level::{level_of, said_level};
 pub use levels::{Levels, levels_of};
 pub use named::{named_levels, named_ranges};

@@ -11,7 +11,7 @@ ghost use Rattle.cil_ranges.specs.Reading.{AreRead};
 use cil_base::NoMemory;
 use cil_known::Known;
 use cil_macros::Instances;
-use cil_mls::attrs::are_plain;
+use cil_mls::are_plain;
 use cil_syntax::Term;
 use std::alloc::Global;
 

@@ -6,7 +6,7 @@ ghost use Rattle.cil_macros.specs.Items.{item_at, items_in};
 
 use cil_base::NoMemory;
 use cil_macros::Instances;
-use cil_macros::blocks::spelled::spelled;
+use cil_macros::blocks_spelled::spelled;
 use cil_syntax::{Fault, FaultCode, Spot, push_fault_in};
 use std::alloc::Global;
 

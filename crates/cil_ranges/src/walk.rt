@@ -21,7 +21,7 @@ use crate::told::push_told;
 use cil_base::NoMemory;
 use cil_known::{behind, behind_first};
 use cil_macros::{Instances, Part, PlacedWord};
-use cil_mls::attrs::are_plain;
+use cil_mls::are_plain;
 use cil_names::Meaning;
 use cil_syntax::{Fault, FaultCode, Op, Spot, Term};
 use std::alloc::Global;

@@ -16,7 +16,7 @@ mod sections;
 mod writing;
 
 pub use bounds::Bounds;
-pub use cil_index as index_crate;
+pub use cil_index::Sections;
 pub use rule::{ReadRule, ReadTarget, rule_at};
 pub use section::rules_at;
 pub use sections::sections_at;

@@ -12,7 +12,7 @@ ghost use Rattle.cil_rule_bytes.specs.Handed.{AreNamed, IsNamed, branches_in, se
 use crate::rule::{ReadRule, ReadTarget};
 use cil_base::{NoMemory, short};
 use cil_conditions::Branch;
-use cil_index::rules::{NamedRule, Reach};
+use cil_index::{NamedRule, Reach};
 use cil_sets::Numbers;
 use std::alloc::Global;
 

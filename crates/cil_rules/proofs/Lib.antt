@@ -4,6 +4,6 @@ pub mod CoverLemmas
 pub mod TargetLemmas
 pub mod LikeLemmas
 pub mod RuleLemmas
-pub use Rattle.cil_classes.proofs as classes_lemmas
-pub use Rattle.cil_conditions.proofs as conditions_lemmas
-pub use Rattle.cil_classes.proofs.names_lemmas
+pub mod classes_lemmas
+pub mod names_lemmas
+pub mod conditions_lemmas

@@ -13,9 +13,8 @@ mod rule;
 mod sides;
 mod statement;
 
-pub use cil_classes as classes;
-pub use cil_conditions as conditions;
-pub use cil_conditions::known;
+pub use cil_classes::{Class, ClassId, GivenPermissions};
+pub use cil_conditions::{Branch, Branches, Known, MOST_BOOLEANS, Settings, branches_of};
 pub use cover::covers;
 pub use gather::rules;
 pub use rule::{NamedRule, Reach, Rules};

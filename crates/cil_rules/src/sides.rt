@@ -17,8 +17,8 @@ ghost use Rattle.cil_rules.specs.Records.{HasTarget, IsTargetOf};
 
 use crate::rule::Reach;
 use cil_base::{NoMemory, short};
-use cil_classes::names::Meaning;
-use cil_conditions::known::meaning_at;
+use cil_classes::Meaning;
+use cil_conditions::meaning_at;
 use cil_sets::Numbers;
 use cil_syntax::{Op, Term};
 

@@ -24,9 +24,8 @@ ghost use Rattle.cil_rules.specs.Records.{Branching, CaseBy, IsPut, IsRuleOf, Is
 use crate::rule::{NamedRule, Reach};
 use crate::sides::{some_at, target_of};
 use cil_base::{NoMemory, short};
-use cil_classes::names::{Meaning, same_keyword};
-use cil_classes::{Class, ClassId, GivenPermissions, push_perms};
-use cil_conditions::known::{Known, behind, behind_first, meaning_at};
+use cil_classes::{Class, ClassId, GivenPermissions, Meaning, push_perms, same_keyword};
+use cil_conditions::{Known, behind, behind_first, meaning_at};
 use cil_macros::Instances;
 use cil_sets::Numbers;
 use cil_syntax::{Keyword, Statement};

@@ -8,5 +8,5 @@ pub mod SessionLemmas
 pub mod SpelledLemmas
 pub mod StreamLemmas
 pub mod TurnLemmas
-pub use Rattle.cil_host.proofs.avc_lemmas
-pub use Rattle.cil_host.proofs.tables_lemmas
+pub mod neverallow_lemmas
+pub mod avc_lemmas

@@ -9,8 +9,7 @@ ghost use Rattle.cil_server.specs.Turns.{IsListed, TellsDecision, TellsName, Tel
 use crate::devices::Sink;
 use crate::output::Output;
 use cil_base::Bytes;
-use cil_host::Host;
-use cil_host::decide::Decision;
+use cil_host::{Decision, Host};
 use std::hash::BuildHasher;
 
 /// A decision on a class, by the names of its permissions.

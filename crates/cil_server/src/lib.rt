@@ -21,8 +21,11 @@ mod session;
 mod streams;
 mod turn;
 
-pub use cil_host as host;
-pub use cil_host::{avc, decide, optionals, tables};
+pub use cil_host::{
+    Asked, Avc, ClassId, Compiled, Context, Decision, Host, NamedRule, NamedRules, QueryFault,
+    Reach, Sections, Tables, WhyLine, boolean_named, class_named, compile, covers, decide,
+    defaults, parse_context, permission_at, permission_named,
+};
 pub use devices::{Counted, Sink, Source};
 pub use loading::{LoadEnd, load};
 pub use output::{Output, new_chunk};

@@ -9,7 +9,7 @@ use crate::devices::Sink;
 use crate::output::Output;
 use crate::replies::{put_decimal, put_number, put_ok_number};
 use cil_base::Bytes;
-use cil_host::optionals::{OptionalLine, WhyLine};
+use cil_host::{OptionalLine, WhyLine};
 
 pub(crate) fn put_optionals<W: Sink>(output: &mut Output<'_, W>, lines: &[OptionalLine])
     ensures { Tells output.old output.new (of_optionals lines.now) }

@@ -12,8 +12,7 @@ use cil_format::{
     Section, TableError, TableFault, byte_below, is_below, section_at, text_in, u8_at,
 };
 use cil_label_bytes::{owned_name_at, permission_at};
-use cil_tables::Boolean;
-use cil_tables::classes::Class;
+use cil_tables::{Boolean, Class};
 use std::alloc::Global;
 
 /// How many permissions a class may have.

@@ -20,8 +20,7 @@ mod tests;
 mod writing;
 
 pub use cil_format::{TableError, TableFault};
-pub use cil_tables as tables;
-pub use cil_tables::optionals;
+pub use cil_tables::{Compiled, OptionalLine, Tables, WhyLine, compile};
 pub use measuring::{Measured, measure};
 pub use reading::decode;
 pub use writing::encode;

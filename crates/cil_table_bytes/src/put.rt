@@ -8,8 +8,7 @@ ghost use Rattle.cil_table_bytes.specs.Names as names;
 
 use cil_base::{Bytes, NoMemory};
 use cil_format::{put_byte, put_count, put_small, put_text};
-use cil_tables::classes::Class;
-use cil_tables::{Alias, Boolean};
+use cil_tables::{Alias, Boolean, Class};
 
 /// A record that is put behind others.
 pub trait Put: Drop {

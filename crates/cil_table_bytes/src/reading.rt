@@ -16,14 +16,11 @@ use crate::classes::{booleans_at, classes_at, flag_at};
 use crate::links::links_at;
 use crate::names::{aliases_at, roles_at, types_at};
 use cil_base::{Bytes, Names, NoMemory};
-use cil_constraint_bytes::constraints_crate::Constraint;
-use cil_constraint_bytes::{Bounds as ConstraintBounds, constraints_at};
+use cil_constraint_bytes::{Bounds as ConstraintBounds, Constraint, constraints_at};
 use cil_format::{TableError, TableFault, this_byte};
 use cil_label_bytes::{ReadLabels, labels_at};
-use cil_rule_bytes::index_crate::Sections;
-use cil_rule_bytes::{Bounds as RuleBounds, sections_at};
-use cil_tables::classes::Class;
-use cil_tables::{Alias, Boolean, Links, TableParts, Tables};
+use cil_rule_bytes::{Bounds as RuleBounds, Sections, sections_at};
+use cil_tables::{Alias, Boolean, Class, Links, TableParts, Tables};
 use std::alloc::Global;
 
 /// What sections 6 to 10 name.

@@ -25,8 +25,8 @@ pub mod SpaceLemmas
 pub mod SymbolLemmas
 pub mod TablesExist
 pub mod WideClasses
-pub use Rattle.cil_constraints.proofs as constraints_crate_lemmas
-pub use Rattle.cil_level_rows.proofs.mls_lemmas
-pub use Rattle.cil_neverallow.proofs as neverallow_lemmas
-pub use Rattle.cil_blocks.proofs as blocks_lemmas
-pub use Rattle.cil_classes.proofs as classes_lemmas
+pub mod classes_lemmas
+pub mod mls_lemmas
+pub mod neverallow_lemmas
+pub mod blocks_lemmas
+pub mod constraints_crate_lemmas

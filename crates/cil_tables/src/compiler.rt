@@ -37,14 +37,13 @@ use cil_classes::{Classes, classes};
 use cil_declare::declare;
 use cil_faults::{Both, Failure, together};
 use cil_known::{Known, Numbering, Sections, numbered};
-use cil_level_rows::labels_of;
-use cil_level_rows::mls::{Orders, orders};
+use cil_level_rows::{Orders, labels_of, orders};
 use cil_macros::{Instances, expand};
 use cil_modset::ModuleSet;
 use cil_names::{Lookup, Names as DeclaredNames, Shared, Words, commons_of, permissions_of};
-use cil_optionals::words::{asks_of, judged, settled};
 use cil_optionals::{
-    Chosen, OptionalLine, Reason, WhyLine, greatest_of, optional_lines, why_lines,
+    Chosen, OptionalLine, Reason, WhyLine, asks_of, greatest_of, judged, optional_lines, settled,
+    why_lines,
 };
 use cil_syntax::written;
 use std::alloc::Global;

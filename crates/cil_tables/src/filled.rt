@@ -24,7 +24,7 @@ use cil_base::Names;
 use cil_classes::{Class, Classes, given_permissions};
 use cil_faults::Failure;
 use cil_known::{Known, Numbering, Sections};
-use cil_level_rows::labels::Labels;
+use cil_level_rows::Labels;
 use cil_macros::Instances;
 use std::alloc::Global;
 

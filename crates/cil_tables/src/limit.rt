@@ -11,7 +11,7 @@ ghost use Rattle.cil_tables.specs.Table.{most_booleans};
 
 use cil_base::Bytes;
 use cil_faults::{Failure, FaultCode, Spot, push_fault, refuse};
-use cil_neverallow::conditions::MOST_BOOLEANS;
+use cil_neverallow::MOST_BOOLEANS;
 use std::alloc::Global;
 
 /// Refuses more booleans than a policy may have, where these are the names of all. Errors: that fault, or out of memory.

@@ -14,7 +14,7 @@ ghost use Rattle.cil_tables.specs.Standings.{AllStand, AreAllMembers};
 use cil_base::NoMemory;
 use cil_faults::{Both, Failure, together};
 use cil_known::{Known, Sections};
-use cil_level_rows::attrs::{Members, Roles, Types, Users, members, standing_of};
+use cil_level_rows::{Members, Roles, Types, Users, members, standing_of};
 use cil_macros::Instances;
 use cil_sets::Numbers;
 use std::alloc::Global;

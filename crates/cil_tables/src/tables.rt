@@ -12,8 +12,8 @@ use crate::holders::Links;
 use cil_base::{Bytes, Names};
 use cil_classes::Class;
 use cil_constraints::Constraint;
-use cil_level_rows::labels::Labels;
-use cil_neverallow::index_crate::Sections;
+use cil_level_rows::Labels;
+use cil_neverallow::Sections;
 use std::cmp::Ordering;
 use std::marker::Model;
 

@@ -3,9 +3,7 @@
 
 use crate::growths::FIRST;
 use crate::hosts::Hashers;
-use cil_server::avc::Avc;
-use cil_server::decide::{ClassId, Context, Decision, defaults, parse_context};
-use cil_server::tables::{Tables, compile};
+use cil_server::{Avc, ClassId, Context, Decision, Tables, compile, defaults, parse_context};
 use cil_text_tests::set_of;
 use std::alloc::Global;
 use std::hash::BuildHasherDefault;

@@ -5,8 +5,7 @@ ghost use Rattle.std.specs.List.Sorted.{IsStrictlySortedBy};
 ghost use Rattle.cil_conditions.specs.Order.{branch_cmp};
 
 use cil_conditions::{Branch, Settings};
-use cil_server::tables::index_crate::{Asked, NamedRules, Sections};
-use cil_server::tables::rules::{NamedRule, Reach, covers};
+use cil_server::{Asked, NamedRule, NamedRules, Reach, Sections, covers};
 use cil_sets::{Joining, Numbers};
 use std::alloc::Global;
 use std::test::Fail;

@@ -5,12 +5,10 @@ use crate::growths::FIRST;
 use crate::hosts::{Hashers, new_host};
 use cil_base::Names;
 use cil_mls::Level;
-use cil_server::decide::{
-    ClassId, Context, boolean_named, class_named, decide, defaults, parse_context, permission_at,
-    permission_named,
+use cil_server::{
+    ClassId, Context, Host, QueryFault, Tables, boolean_named, class_named, compile, decide,
+    defaults, parse_context, permission_at, permission_named,
 };
-use cil_server::host::{Host, QueryFault};
-use cil_server::tables::{Tables, compile};
 use cil_syntax::Bytes;
 use cil_text_tests::set_of;
 use std::alloc::Global;

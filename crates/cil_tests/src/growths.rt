@@ -3,9 +3,7 @@
 
 use crate::hosts::{Hashers, new_host};
 use cil_modset::ModuleSet;
-use cil_server::host::{Host, QueryFault};
-use cil_server::tables::compile;
-use cil_server::{Counted, Served, serve};
+use cil_server::{Counted, Host, QueryFault, Served, compile, serve};
 use cil_syntax::{Failure, FaultList, render};
 use cil_text_tests::set_of;
 use std::alloc::Global;

@@ -1,6 +1,6 @@
 //! Hosts for tests. The keys of their caches are hashed with a fixed seed, so that a test runs alike each time.
 
-use cil_server::host::Host;
+use cil_server::Host;
 use std::alloc::Global;
 use std::hash::{BuildHasherDefault, FoldHasher};
 

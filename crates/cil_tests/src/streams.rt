@@ -4,8 +4,7 @@ ghost use Rattle.std.specs.Prelude.{◌<◌};
 ghost use Rattle.cil_server.specs.Devices.{most_failures};
 
 use crate::hosts::{Hashers, new_host};
-use cil_server::host::Host;
-use cil_server::{Counted, Served, Sink, Source, serve};
+use cil_server::{Counted, Host, Served, Sink, Source, serve};
 use std::alloc::Global;
 use std::cell::Cell;
 use std::io;

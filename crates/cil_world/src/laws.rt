@@ -3,8 +3,7 @@
 
 ghost use Rattle.cil_world.specs.Laws.{LoadAlike, NoneRefused, NothingChanges};
 
-use cil_host::modset::laws as bundles;
-use cil_host::tables::laws as policies;
+use cil_host::{modset_laws as bundles, tables_laws as policies};
 
 /// Hosts that the same texts have reached, in whatever order and by whatever way, answer a load alike: with the same faults, or with the same
 /// length and digest.

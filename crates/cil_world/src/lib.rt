@@ -16,7 +16,6 @@ mod steps;
 mod tests;
 mod world;
 
-pub use cil_host as host;
 pub use cil_host::Excerpt;
 pub use event::Event;
 pub use reply::Reply;

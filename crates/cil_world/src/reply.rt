@@ -1,10 +1,10 @@
 //! What an event is answered.
 
 use cil_base::Bytes;
-use cil_host::faults::{Failure, FaultList};
-use cil_host::modset::{BundleError, BundleFault, Installed};
-use cil_host::sexpr::{ReadError, ReadFault};
-use cil_host::{Loaded, QueryFault};
+use cil_host::{
+    BundleError, BundleFault, Failure, FaultList, Installed, Loaded, QueryFault, ReadError,
+    ReadFault,
+};
 
 /// What an event is answered.
 #[derive(Debug, Drop)]

@@ -7,8 +7,7 @@ use crate::event::Event;
 use crate::reply::Reply;
 use crate::world::World;
 use cil_base::NoMemory;
-use cil_host::modset::laws as bundles;
-use cil_host::sexpr::laws as texts;
+use cil_host::{modset_laws as bundles, sexpr_laws as texts};
 use std::alloc::Global;
 
 /// What each event is answered, where so many hosts begin without modules and the events happen one after the other. A host keeps up to 512 decisions in its cache.

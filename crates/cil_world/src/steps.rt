@@ -11,8 +11,7 @@ use crate::event::Event;
 use crate::masks::spelled;
 use crate::reply::Reply;
 use cil_base::{Bytes, NoMemory};
-use cil_host::Host;
-use cil_host::decide::Decision;
+use cil_host::{Decision, Host};
 use std::alloc::Global;
 use std::hash::{BuildHasherDefault, FoldHasher};
 

@@ -2,8 +2,7 @@
 
 use crate::{Event, Excerpt, Reply, run_world};
 use cil_base::Bytes;
-use cil_host::QueryFault;
-use cil_host::modset::Installed;
+use cil_host::{Installed, QueryFault};
 use std::alloc::Global;
 use std::test::Fail;
 

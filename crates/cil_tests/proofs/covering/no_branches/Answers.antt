@@ -1,7 +1,7 @@
 use Rattle.std.proofs.Common.{subst, sym}
 use Rattle.std.specs.List.Sorted.{IsStrictlySortedBy}
 use Rattle.cil_conditions.specs.Order.{branch_cmp}
-use Rattle.cil_server.proofs.tables_lemmas.neverallow_lemmas.MeetLemmas.{no_branches}
+use Rattle.cil_server.proofs.neverallow_lemmas.MeetLemmas.{no_branches}
 use Rattle.cil_tests.proofs.covering.no_branches.Goals as goal
 
 pub returns : goal.returns

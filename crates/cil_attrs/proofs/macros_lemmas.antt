@@ -1,0 +1,4 @@
+-- What crates above take of the lemmas of cil_macros.
+pub use Rattle.cil_known.proofs.macros_lemmas.ItemLemmas
+pub use Rattle.cil_known.proofs.macros_lemmas.ItemsThere
+pub use Rattle.cil_known.proofs.macros_lemmas.SaidTerms

@@ -1,0 +1,2 @@
+-- What crates above take of the lemmas of cil_neverallow.
+pub use Rattle.cil_tables.proofs.neverallow_lemmas.MeetLemmas

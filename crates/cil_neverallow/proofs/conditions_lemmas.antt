@@ -1,0 +1,2 @@
+-- What crates above take of the lemmas of cil_conditions.
+pub use Rattle.cil_index.proofs.conditions_lemmas.ConditionLemmas

@@ -1,0 +1,4 @@
+-- What crates above take of the lemmas of cil_classes.
+pub use Rattle.cil_classes.proofs.BitLemmas
+pub use Rattle.cil_classes.proofs.PartLemmas
+pub use Rattle.cil_classes.proofs.ValueLemmas

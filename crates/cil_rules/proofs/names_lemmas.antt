@@ -1,0 +1,2 @@
+-- What crates above take of the lemmas of cil_names.
+pub use Rattle.cil_conditions.proofs.names_lemmas.DeclareDecided
