@@ -1,3 +1,3 @@
 pub mod Cache
 pub mod Hashed
-pub mod decide
+pub mod decide_crate

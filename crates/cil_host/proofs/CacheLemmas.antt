@@ -5,7 +5,7 @@ use Rattle.cil_avc.specs.declared.key.Key.{Key}
 use Rattle.cil_avc.specs.Cache.{Entries, IsTrueFor}
 use Rattle.cil_avc.proofs.TrueCache.{true_empty}
 use Rattle.cil_table_bytes.specs.conditions.Bits.{is_on}
-use Rattle.cil_avc.specs.decide.Decision.{Decision}
+use Rattle.cil_avc.specs.decide_crate.Decision.{Decision}
 use Rattle.cil_host.specs.declared.host.Policy.{Policy}
 use Rattle.cil_host.specs.Machine.{IsTrueCache}
 

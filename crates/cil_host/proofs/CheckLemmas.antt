@@ -3,7 +3,7 @@ use Rattle.std.specs.Prelude.{◌==◌, ◌/◌, ◌^◌, Result, Ok, Err, bit_a
 use Rattle.std.proofs.Common.{◌≡◌, ℕ, List, eq-eqb, subst}
 use Rattle.std.proofs.lemmas.Bool.{eqb-true}
 use Rattle.std.proofs.lemmas.Nat.{bit_set_by_shift}
-use Rattle.cil_avc.specs.decide.Decision.{Decision}
+use Rattle.cil_avc.specs.decide_crate.Decision.{Decision}
 use Rattle.cil_host.specs.Checks.{Checks, IsChecked, LacksPermission}
 use Rattle.cil_host.specs.declared.fault.QueryFault.{QueryFault}
 use Rattle.cil_host.specs.declared.fault.QueryFault.TheVariants.{NoPolicy, BadSource, BadTarget, NoClass, NoPermission, NoBoolean}

@@ -27,7 +27,7 @@ use Rattle.cil_table_bytes.specs.tables.Booleans.{is_default_on}
 use Rattle.cil_table_bytes.specs.tables.Named.{IsNameOf}
 use Rattle.cil_table_bytes.specs.tables.Table.{Table, boolean_names}
 use Rattle.cil_table_bytes.proofs.tables_lemmas.CompileLemmas.{policy_moved}
-use Rattle.cil_avc.specs.decide.Decides.{IsOnAtFirst}
+use Rattle.cil_avc.specs.decide_crate.Decides.{IsOnAtFirst}
 use Rattle.cil_avc.proofs.decide_lemmas.BooleanLemmas.{at_name}
 use Rattle.cil_host.specs.Settings.{IsDefaultOn, IsSetTo, on_from, on_in, on_names}
 

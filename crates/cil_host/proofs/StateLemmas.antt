@@ -10,7 +10,7 @@ use Rattle.cil_faults.specs.declared.failure.Failure.TheVariants.{NoMemory}
 use Rattle.cil_table_bytes.specs.tables.CompileAnswer.{IsCompiled}
 use Rattle.cil_table_bytes.specs.tables.CompileRefusal.{CompileFails}
 use Rattle.cil_table_bytes.specs.tables.Table.{boolean_names}
-use Rattle.cil_avc.specs.decide.Decides.{IsOnAtFirst}
+use Rattle.cil_avc.specs.decide_crate.Decides.{IsOnAtFirst}
 use Rattle.cil_host.specs.declared.host.Loaded.{Loaded}
 use Rattle.cil_host.specs.declared.host.Policy.{Policy}
 use Rattle.cil_host.specs.Machine.{CanLoad, State, accepted_of, same_state}

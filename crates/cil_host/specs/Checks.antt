@@ -1,6 +1,6 @@
 -- Whether a permission is allowed, by the decision of a query. This project's profile.
 use Rattle.std.specs.Prelude.{◌≡◌, ◌↔◌, ℕ, Bool, true, List, Result, Ok, Err, IsBitSet}
-use Rattle.cil_avc.specs.decide.Decision.{Decision}
+use Rattle.cil_avc.specs.decide_crate.Decision.{Decision}
 use Rattle.cil_host.specs.declared.fault.QueryFault.{QueryFault}
 use Rattle.cil_host.specs.declared.fault.QueryFault.TheVariants.{NoPermission}
 use Rattle.cil_host.specs.Machine.{OfLoaded, Queries, State}

@@ -6,7 +6,7 @@ pub mod Permissions
 pub mod Refusal
 pub mod Sets
 pub mod Settings
-pub mod decide
+pub mod decide_crate
 pub mod tables
 pub mod optionals
 pub mod faults

@@ -7,14 +7,14 @@ use Rattle.cil_table_bytes.specs.optionals.Reason.{Reason}
 use Rattle.cil_table_bytes.specs.optionals.Certificate.{IsRight}
 use Rattle.cil_table_bytes.specs.optionals.First.{AreFirst}
 use Rattle.cil_table_bytes.specs.optionals.Policy.{ArePolicy}
-use Rattle.cil_avc.specs.decide.Decision.{Decision}
+use Rattle.cil_avc.specs.decide_crate.Decision.{Decision}
 use Rattle.cil_avc.specs.declared.key.Key.{Key}
 use Rattle.cil_avc.specs.Cache.{IsTrueFor}
 use Rattle.cil_table_bytes.specs.optionals.OptionalLine.{OptionalLine}
 use Rattle.cil_table_bytes.specs.optionals.WhyLine.{WhyLine}
 use Rattle.cil_table_bytes.specs.tables.Agrees.{Compiles}
 use Rattle.cil_table_bytes.specs.tables.CompileAnswer.{IsCompiled}
-use Rattle.cil_avc.specs.decide.Decides.{HasNoClass, HasNoContext, ModulesDecide}
+use Rattle.cil_avc.specs.decide_crate.Decides.{HasNoClass, HasNoContext, ModulesDecide}
 use Rattle.cil_table_bytes.specs.optionals.Lines.{AreOptionalsOf, AreReasonsOf}
 use Rattle.cil_table_bytes.specs.conditions.Bits.{is_on}
 use Rattle.cil_table_bytes.specs.tables.Table.{Table, boolean_names}

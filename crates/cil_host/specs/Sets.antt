@@ -1,6 +1,6 @@
 -- A boolean of the loaded policy that is turned on or off. The SELinux Notebook, "Booleans"; this project's profile.
 use Rattle.std.specs.Prelude.{◌≡◌, ℕ, Bool, List, Some, None, Result, Ok, Err}
-use Rattle.cil_avc.specs.decide.Decides.{HasNoBoolean}
+use Rattle.cil_avc.specs.decide_crate.Decides.{HasNoBoolean}
 use Rattle.cil_host.specs.declared.fault.QueryFault.{QueryFault}
 use Rattle.cil_host.specs.declared.fault.QueryFault.TheVariants.{NoPolicy, BadSource, BadTarget, NoClass, NoPermission, NoBoolean}
 use Rattle.cil_host.specs.Machine.{Accepted, OfLoaded, State}

@@ -6,7 +6,7 @@ use Rattle.cil_faults.specs.declared.failure.Failure.{Failure}
 use Rattle.cil_faults.specs.declared.failure.Failure.TheVariants as failures
 use Rattle.cil_faults.specs.declared.fault.Fault.{Fault}
 use Rattle.cil_faults.specs.Printed.{printed}
-use Rattle.cil_host.specs.decide.Decision.{Decision}
+use Rattle.cil_host.specs.decide_crate.Decision.{Decision}
 use Rattle.cil_host.specs.declared.fault.QueryFault.{QueryFault}
 use Rattle.cil_host.specs.declared.listing.ListLine.{ListLine}
 use Rattle.cil_host.specs.declared.host.Loaded.{Loaded}

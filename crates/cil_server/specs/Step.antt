@@ -7,7 +7,7 @@ use Rattle.cil_modset.specs.Changes.{IsImported, IsInstalled}
 use Rattle.cil_modset.specs.declared.error.BundleError.{BundleError}
 use Rattle.cil_modset.specs.declared.set.Installed.{Installed}
 use Rattle.cil_faults.specs.declared.failure.Failure.{Failure}
-use Rattle.cil_host.specs.decide.Decision.{Decision}
+use Rattle.cil_host.specs.decide_crate.Decision.{Decision}
 use Rattle.cil_host.specs.declared.fault.QueryFault.{QueryFault}
 use Rattle.cil_host.specs.declared.host.Loaded.{Loaded}
 use Rattle.cil_host.specs.Listed.{line_of}

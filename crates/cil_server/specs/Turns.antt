@@ -1,7 +1,7 @@
 -- What the parts of a session do to the host, the streams and the replies.
 use Rattle.std.specs.Prelude.{◌≡◌, ℕ, ◌+◌, ◌<◌, ◌≤◌, Bool, true, false, List, [], ◌∷◌, length, IsBitSet, Option, Some, None, Result, Ok, Err, slice_get}
 use denote.Ref.{Bor}
-use Rattle.cil_host.specs.decide.Decision.{Decision}
+use Rattle.cil_host.specs.decide_crate.Decision.{Decision}
 use Rattle.cil_host.specs.Machine.{State}
 use Rattle.cil_host.specs.Permissions.{IsInOrder}
 use Rattle.cil_server.specs.Asked.{Line, Request, asked, body_of, request_of}

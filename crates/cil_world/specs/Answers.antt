@@ -1,6 +1,6 @@
 -- What an event does to its host, and what it is answered. This project's profile.
 use Rattle.std.specs.Prelude.{◌≡◌, ◌⊎◌, ◌<◌, ℕ, Bool, List, [], None, length, Result, Ok, Err}
-use Rattle.cil_host.specs.decide.Decision.{Decision}
+use Rattle.cil_host.specs.decide_crate.Decision.{Decision}
 use Rattle.cil_host.specs.faults.Failure.{Failure}
 use Rattle.cil_host.specs.modset.BundleError.{BundleError}
 use Rattle.cil_host.specs.modset.Installed.{Installed as IsNew}

@@ -2,7 +2,7 @@
 use Rattle.std.specs.Prelude.{◌≡◌, ◌<◌, ℕ, Bool, true, false, List, [], ◌∷◌, ◌++◌, codes, IsBitSet, slice_get, Some}
 use Rattle.std.specs.List.{flat_map}
 use Rattle.cil_base.specs.Lists.{Lists, text_cmp}
-use Rattle.cil_host.specs.decide.Decision.{Decision}
+use Rattle.cil_host.specs.decide_crate.Decision.{Decision}
 use Rattle.cil_host.specs.Machine.{OfLoaded, State}
 use Rattle.cil_host.specs.Permissions.{IsInOrder, IsPermissionOf}
 use Rattle.cil_world.specs.declared.reply.Reply.{Reply}

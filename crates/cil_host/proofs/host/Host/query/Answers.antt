@@ -1,7 +1,7 @@
 use Rattle.std.proofs.Common.{sym}
 use Rattle.cil_host.specs.Machine.{LacksClass, LacksTarget}
 use Rattle.cil_host.specs.Settings.{on_in}
-use Rattle.cil_avc.specs.decide.Decides.{ModulesDecide}
+use Rattle.cil_avc.specs.decide_crate.Decides.{ModulesDecide}
 use Rattle.cil_host.proofs.QueryLemmas.{accepted_fact, kept, loaded_fact}
 use Rattle.cil_host.proofs.SettingLemmas.{same_settings}
 use Rattle.cil_host.proofs.host.Host.query.Goals as goal

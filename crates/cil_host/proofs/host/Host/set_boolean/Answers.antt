@@ -1,5 +1,5 @@
 use Rattle.std.proofs.Common.{refl, sym}
-use Rattle.cil_avc.specs.decide.Decides.{HasNoBoolean}
+use Rattle.cil_avc.specs.decide_crate.Decides.{HasNoBoolean}
 use Rattle.cil_host.proofs.QueryLemmas.{kept, loaded_fact}
 use Rattle.cil_host.proofs.SettingLemmas.{boolean_set, names_rise}
 use Rattle.cil_host.proofs.StateLemmas.{set_in}

@@ -1,2 +1,0 @@
--- What crates above take of cil_decide.
-pub use Rattle.cil_avc.specs.decide.Decision

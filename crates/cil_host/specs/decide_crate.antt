@@ -1,0 +1,2 @@
+-- What crates above take of cil_decide.
+pub use Rattle.cil_avc.specs.decide_crate.Decision
