@@ -39,7 +39,7 @@ one_true (suc zero) small = (λ e. refl, λ e. refl)
 one_true (suc (suc v)) small = absurd (omega (arith, small))
 
 -- the bit of a number, as a test
-on_true : (words : List ℕ) (n : ℕ) → IsOn words n ↔ (is_on words n ≡ true)
+pub on_true : (words : List ℕ) (n : ℕ) → IsOn words n ↔ (is_on words n ≡ true)
 on_true words n =
     let word = get_or words (n / 64) 0 in
     let set = set_is_one word (n % 64) in

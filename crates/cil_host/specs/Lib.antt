@@ -12,3 +12,8 @@ pub mod optionals
 pub mod faults
 pub mod sexpr
 pub mod modset
+pub mod conditions
+pub mod table_bytes
+pub mod constraints_crate
+pub mod classes
+pub mod format

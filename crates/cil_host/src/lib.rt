@@ -18,6 +18,7 @@ pub use cil_faults::{Failure, FaultList};
 pub use cil_modset::{BundleError, BundleFault, Installed, laws as modset_laws};
 pub use cil_sexpr::{ReadError, ReadFault, laws as sexpr_laws};
 pub use cil_syntax::Excerpt;
+pub use cil_table_bytes::{TableError, TableFault, decode, encode};
 pub use fault::{HostError, QueryFault};
 pub use host::{Host, Loaded};
 pub use listing::ListLine;

@@ -10,3 +10,4 @@ pub mod StreamLemmas
 pub mod TurnLemmas
 pub mod neverallow_lemmas
 pub mod avc_lemmas
+pub mod host_lemmas

@@ -23,7 +23,7 @@ no_failure (Err failures.NoMemory) = refl
 
 module _ (o q : OutputState) (bytes : List ℕ) where
   -- all that was told is written behind what was there
-  appends_all : Tells o q bytes → o.has_failed ≡ false → o.waiting ≡ [] → q.waiting ≡ [] → q.has_failed ≡ false → Appends o.written q.written bytes
+  pub appends_all : Tells o q bytes → o.has_failed ≡ false → o.waiting ≡ [] → q.waiting ≡ [] → q.has_failed ≡ false → Appends o.written q.written bytes
   appends_all t sound empty none fine = by_written o.written refl
     where
       by_written : (w : Option (List ℕ)) → o.written ≡ w → Appends w q.written bytes
@@ -33,7 +33,7 @@ module _ (o q : OutputState) (bytes : List ℕ) where
           subst (λ z. Appends (Some before) z bytes) (sym all) refl
 
   -- or the first of it
-  appends_front : Tells o q bytes → o.has_failed ≡ false → o.waiting ≡ [] → q.has_failed ≡ true → AppendsFront o.written q.written bytes
+  pub appends_front : Tells o q bytes → o.has_failed ≡ false → o.waiting ≡ [] → q.has_failed ≡ true → AppendsFront o.written q.written bytes
   appends_front t sound empty broken = by_written o.written refl
     where
       by_written : (w : Option (List ℕ)) → o.written ≡ w → AppendsFront w q.written bytes

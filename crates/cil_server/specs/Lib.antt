@@ -13,3 +13,11 @@ pub mod Turns
 pub mod Views
 pub mod tables
 pub mod optionals
+pub mod Masks
+pub mod host
+pub mod conditions
+pub mod table_bytes
+pub mod constraints_crate
+pub mod classes
+pub mod decide_crate
+pub mod format

@@ -1,13 +1,12 @@
 -- What the parts of a session do to the host, the streams and the replies.
-use Rattle.std.specs.Prelude.{◌≡◌, ℕ, ◌+◌, ◌<◌, ◌≤◌, Bool, true, false, List, [], ◌∷◌, length, IsBitSet, Option, Some, None, Result, Ok, Err, slice_get}
+use Rattle.std.specs.Prelude.{◌≡◌, ℕ, ◌+◌, ◌<◌, ◌≤◌, Bool, true, false, List, [], ◌∷◌, length, Option, Some, None, Result, Ok, Err}
 use denote.Ref.{Bor}
 use Rattle.cil_host.specs.decide_crate.Decision.{Decision}
 use Rattle.cil_host.specs.Machine.{State}
-use Rattle.cil_host.specs.Permissions.{IsInOrder}
 use Rattle.cil_server.specs.Asked.{Line, Request, asked, body_of, request_of}
-use Rattle.cil_server.specs.Replies.{joined, of_decision}
+use Rattle.cil_server.specs.Replies.{of_decision}
 use Rattle.cil_server.specs.Session.{Ends, IsCutShort, IsFailure, IsLine, IsNext, Runs, Serves, most_requests, reader_failures}
-use Rattle.cil_server.specs.Step.{IsNamed, MayLack, NamesOf, Step}
+use Rattle.cil_server.specs.Step.{MayLack, NamesOf, Step}
 use Rattle.cil_server.specs.Streams.{InputState, OutputState, Tells, Writes, buffer_size, unread}
 use Rattle.cil_server.specs.declared.served.Served.{Served}
 use Rattle.cil_server.specs.declared.served.Served.TheVariants as served
@@ -19,22 +18,6 @@ pub record IsAnswered (old : State) (request : Request) (new : State) (tells : L
   pub reply : List ℕ
   pub step : Step old request reply new
   pub told : tells reply
-
--- the names of a mask, told
-pub record TellsNames (h : State) (class_name : List ℕ) (mask : ℕ) (tells : List ℕ → Type 0) : Type 0 where
-  pub names : List (List ℕ)
-  pub are_names : NamesOf h class_name mask names
-  pub told : tells (joined names)
-
--- the name of a bit of a mask, and where it stands among the others
-pub record IsPlaced (h : State) (class_name : List ℕ) (mask bit : ℕ) (name : List ℕ) : Type 0 where
-  pub named : IsNamed h class_name mask bit name
-  pub order : IsInOrder h class_name bit name
-
--- the name of a bit that is set in a mask, by the names of all bits
-pub record IsListed (names : List (List ℕ)) (mask bit : ℕ) (name : List ℕ) : Type 0 where
-  pub is_set : IsBitSet mask bit
-  pub is_name : slice_get names bit ≡ Some name
 
 -- a name, behind a comma unless it is the first
 abbrev pub behind_comma : Bool → List ℕ → List ℕ

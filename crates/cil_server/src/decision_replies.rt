@@ -1,10 +1,11 @@
 //! The reply to a query: the names of permissions.
 
 ghost use Rattle.std.specs.Prelude.{◌<◌, ℕ, List, MatchOption};
-ghost use Rattle.cil_host.specs.Machine.{State};
-ghost use Rattle.cil_host.specs.Permissions.{AreNamesOf};
+ghost use Rattle.std.specs.List.Sorted.{IsStrictlySortedBy};
+ghost use Rattle.cil_base.specs.Lists.{text_cmp};
+ghost use Rattle.cil_server.specs.Masks.{IsListed, TellsMasks, TellsNames};
 ghost use Rattle.cil_server.specs.Streams.{Tells};
-ghost use Rattle.cil_server.specs.Turns.{IsListed, TellsDecision, TellsName, TellsNames};
+ghost use Rattle.cil_server.specs.Turns.{TellsDecision, TellsName};
 
 use crate::devices::Sink;
 use crate::output::Output;
@@ -12,7 +13,7 @@ use cil_base::Bytes;
 use cil_host::{Decision, Host};
 use std::hash::BuildHasher;
 
-/// A decision on a class, by the names of its permissions.
+/// A decision on a class of the loaded policy, by the names of its permissions.
 pub(crate) fn put_decision<S: BuildHasher + Drop, W: Sink>(
     output: &mut Output<'_, W>,
     host: &Host<S>,
@@ -21,7 +22,13 @@ pub(crate) fn put_decision<S: BuildHasher + Drop, W: Sink>(
 )
     ensures { TellsDecision host.now class.now decision (Tells output.old output.new) }
 {
-    let names = host.permissions(class);
+    put_masks(output, host.permissions(class), decision);
+}
+
+/// A decision on a class whose permissions have these names, in byte order: each stands at its bit of the masks. It takes no memory.
+pub fn put_masks<W: Sink>(output: &mut Output<'_, W>, names: &[Bytes], decision: Decision)
+    ensures { IsStrictlySortedBy text_cmp names.now → TellsMasks names.now decision (Tells output.old output.new) }
+{
     output.put(b"OK ");
     put_names(output, names, decision.allowed);
     output.put(b" ");
@@ -33,7 +40,7 @@ pub(crate) fn put_decision<S: BuildHasher + Drop, W: Sink>(
 
 /// The names of the permissions of a mask, with commas between; a hyphen where there is none.
 fn put_names<W: Sink>(output: &mut Output<'_, W>, names: &[Bytes], mask: u32)
-    ensures { (h : State) (class_ : List ℕ) → AreNamesOf h class_ names.now → TellsNames h class_ mask (Tells output.old output.new) }
+    ensures { IsStrictlySortedBy text_cmp names.now → TellsNames names.now mask (Tells output.old output.new) }
 {
     let mut is_first = true;
     for bit in 0..u32::BITS {

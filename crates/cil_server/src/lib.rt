@@ -22,12 +22,15 @@ mod streams;
 mod turn;
 
 pub use cil_host::{
-    Asked, Avc, ClassId, Compiled, Context, Decision, Host, NamedRule, NamedRules, QueryFault,
-    Reach, Sections, Tables, WhyLine, boolean_named, class_named, compile, covers, decide,
-    defaults, parse_context, permission_at, permission_named,
+    Asked, Avc, ClassId, Compiled, Context, Decision, Host, Loaded, NamedRule, NamedRules,
+    QueryFault, Reach, Sections, TableError, TableFault, Tables, WhyLine, boolean_named,
+    class_named, compile, covers, decide, decode, defaults, encode, parse_context, permission_at,
+    permission_named,
 };
+pub use decision_replies::put_masks;
 pub use devices::{Counted, Sink, Source};
 pub use loading::{LoadEnd, load};
 pub use output::{Output, new_chunk};
+pub use replies::{put_faults, put_loaded, put_query_fault, put_refused};
 pub use served::Served;
 pub use session::serve;

@@ -36,7 +36,7 @@ pub(crate) fn put_ok_number<W: Sink>(output: &mut Output<'_, W>, number: u64)
 }
 
 /// A refusal by its number.
-pub(crate) fn put_refused<W: Sink>(output: &mut Output<'_, W>, code: u32)
+pub fn put_refused<W: Sink>(output: &mut Output<'_, W>, code: u32)
     ensures { Tells output.old output.new (refused code) }
 {
     output.put(b"ERR");
@@ -133,7 +133,7 @@ fn put_digest<W: Sink>(output: &mut Output<'_, W>, digest: [u8; 32])
 }
 
 /// What a load is told by: how many bytes the tables have, and the digest of these.
-pub(crate) fn put_loaded<W: Sink>(output: &mut Output<'_, W>, loaded: Loaded)
+pub fn put_loaded<W: Sink>(output: &mut Output<'_, W>, loaded: Loaded)
     ensures { Tells output.old output.new (of_loaded loaded) }
 {
     output.put(b"OK");
@@ -144,7 +144,7 @@ pub(crate) fn put_loaded<W: Sink>(output: &mut Output<'_, W>, loaded: Loaded)
 }
 
 /// The lines of some faults, and how many there are.
-pub(crate) fn put_faults<W: Sink>(output: &mut Output<'_, W>, count: usize, lines: &[u8])
+pub fn put_faults<W: Sink>(output: &mut Output<'_, W>, count: usize, lines: &[u8])
     ensures { Tells output.old output.new (codes "FAULTS" ++ spaced count ++ newline ++ lines.now) }
 {
     output.put(b"FAULTS");
@@ -162,7 +162,7 @@ pub(crate) fn put_host_error<W: Sink>(output: &mut Output<'_, W>, error: HostErr
     }
 }
 
-pub(crate) fn put_query_fault<W: Sink>(output: &mut Output<'_, W>, fault: QueryFault)
+pub fn put_query_fault<W: Sink>(output: &mut Output<'_, W>, fault: QueryFault)
     ensures { Tells output.old output.new (of_query_fault fault) }
 {
     match fault {

@@ -10,3 +10,4 @@ pub mod conditions
 pub mod macros
 pub mod names_crate
 pub mod optionals
+pub mod format

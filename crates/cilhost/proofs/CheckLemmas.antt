@@ -2,12 +2,12 @@
 use Rattle.std.proofs.Common.{◌≡◌, ℕ, ◌+◌, List, Option, Result, Ok, Err, Bor}
 use Rattle.cil_faults.specs.declared.failure.Failure.{Failure}
 use Rattle.cil_faults.specs.declared.failure.Failure.TheVariants as failures
-use Rattle.cil_host.specs.Machine.{State}
-use Rattle.cil_host.specs.Refusal.{Loads}
-use Rattle.cil_host.specs.declared.host.Loaded.{Loaded}
-use Rattle.cil_server.specs.Load.{LeavesLoad, end_of, load_failures}
-use Rattle.cil_server.specs.declared.loading.LoadEnd.{LoadEnd}
-use Rattle.cil_server.specs.declared.loading.LoadEnd.TheVariants as ends
+use Rattle.cil_commands.specs.host.Machine.{State}
+use Rattle.cil_commands.specs.host.Refusal.{Loads}
+use Rattle.cil_commands.specs.host.Loaded.{Loaded}
+use Rattle.cil_commands.specs.server.Load.{LeavesLoad, end_of, load_failures}
+use Rattle.cil_commands.specs.server.LoadEnd.{LoadEnd}
+use Rattle.cil_commands.specs.server.LoadEnd.TheVariants as ends
 use Rattle.cilhost.specs.Checks.{HasFaults, load_status}
 use Rattle.cilhost.specs.Reading.{HasJust, Known}
 use Rattle.cilhost.specs.declared.status.Status.{Status}

@@ -15,11 +15,11 @@ use Rattle.cil_modset.proofs.RisingLemmas.{rising_none}
 use Rattle.cil_modset.specs.Modules.{AreModules, IsUnion}
 use Rattle.cil_modset.specs.declared.set.Installed.{Installed}
 use Rattle.cil_modset.specs.declared.set.Installed.TheVariants.{New, Known as Again}
-use Rattle.cil_host.specs.Machine.{State}
+use Rattle.cil_commands.specs.host.Machine.{State}
 use Rattle.cilhost.specs.Ends.{IsFailure, error_status, refusal, status_of}
-use Rattle.cil_server.specs.Session.{reader_failures, writer_failures}
-use Rattle.cil_server.specs.declared.served.Served.{Served}
-use Rattle.cil_server.specs.declared.served.Served.TheVariants as served
+use Rattle.cil_commands.specs.server.Session.{reader_failures, writer_failures}
+use Rattle.cil_commands.specs.server.Served.{Served}
+use Rattle.cil_commands.specs.server.Served.TheVariants as served
 use Rattle.cilhost.specs.Reading.{Adds, Failure, HasFailed, HasJust, HasRefused, HasText, IsDue, IsDueAt, IsFaultOfFile, IsModule, IsOfOne, IsTextOf, Known, StopsAt}
 use Rattle.cilhost.specs.declared.status.Status.{Status}
 use Rattle.cilhost.specs.declared.status.Status.TheVariants as statuses

@@ -3,11 +3,11 @@ use Rattle.std.specs.Prelude.{◌≡◌, ◌⊎◌, ◌+◌, ℕ, List, None, ma
 use Rattle.std.specs.Borrow.{Bor}
 use Rattle.cil_faults.specs.declared.failure.Failure.TheVariants as failures
 use Rattle.cil_faults.specs.declared.fault.Fault.{Fault}
-use Rattle.cil_host.specs.Machine.{State}
-use Rattle.cil_server.specs.Load.{LeavesLoad, load_failures}
-use Rattle.cil_server.specs.declared.loading.LoadEnd.{LoadEnd}
-use Rattle.cil_server.specs.declared.loading.LoadEnd.TheVariants as ends
-use Rattle.cil_tables.specs.CompileRefusal.{CompileFails}
+use Rattle.cil_commands.specs.host.Machine.{State}
+use Rattle.cil_commands.specs.server.Load.{LeavesLoad, load_failures}
+use Rattle.cil_commands.specs.server.LoadEnd.{LoadEnd}
+use Rattle.cil_commands.specs.server.LoadEnd.TheVariants as ends
+use Rattle.cil_commands.specs.tables.CompileRefusal.{CompileFails}
 use Rattle.cilhost.specs.Ends.{error_status}
 use Rattle.cilhost.specs.Reading.{Failure, HasJust, IsDue, Known}
 use Rattle.cilhost.specs.Sessions.{Stream}

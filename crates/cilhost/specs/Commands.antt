@@ -36,10 +36,32 @@ optionals_rule = record (new_rule (codes "optionals")) { long = Some (codes "opt
 abbrev pub locate : App
 locate = with_rule (over_files (codes "locate") 1) optionals_rule
 
+-- the option that says to which file tables are written
+abbrev pub out_rule : Rule
+out_rule = record (new_rule (codes "out")) { long = Some (codes "out"); action = Some Set; value_names = 1; required = true }
+
+abbrev pub compile : App
+compile = with_rule (over_files (codes "compile") 1) out_rule
+
+-- the option that says which tables are asked
+abbrev pub tables_rule : Rule
+tables_rule = record (new_rule (codes "tables")) { long = Some (codes "tables"); action = Some Set; value_names = 1; required = true }
+
+-- a word that has to be there
+abbrev pub word_rule : List ℕ → Rule
+word_rule name = record (new_rule name) { action = Some Set; required = true }
+
+abbrev pub decide : App
+decide = with_rule (with_rule (with_rule (with_rule (new_app (codes "decide")) tables_rule) (word_rule (codes "SOURCE"))) (word_rule (codes "TARGET"))) (word_rule (codes "CLASS"))
+
+-- the program with its first three subcommands
+abbrev pub program_of_modules : App
+program_of_modules = with_subcommand (with_subcommand (with_subcommand
+    (on_top (λ s. record s { has_version = true; subcommand_required = true; arg_required_else_help = true }) (new_app (codes "cilhost"))) session.top) check.top) locate.top
+
 -- the program
 abbrev pub program : App
-program = with_subcommand (with_subcommand (with_subcommand
-    (on_top (λ s. record s { has_version = true; subcommand_required = true; arg_required_else_help = true }) (new_app (codes "cilhost"))) session.top) check.top) locate.top
+program = with_subcommand (with_subcommand program_of_modules compile.top) decide.top
 
 -- the command is this one, and its arguments are its own
 pub record IsCommand (app : App) (c : Command) : Type 0 where

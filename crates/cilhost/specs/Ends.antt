@@ -5,8 +5,10 @@ use Rattle.std.specs.declared.io.ErrorKind as io
 use Rattle.std.specs.declared.io.ErrorKind.TheVariants as io_kind
 use Rattle.clap.specs.declared.error.kind.ErrorKind.{ErrorKind}
 use Rattle.clap.specs.declared.error.kind.ErrorKind.TheVariants as kind
-use Rattle.cil_server.specs.declared.served.Served.{Served}
-use Rattle.cil_server.specs.declared.served.Served.TheVariants.{Quit, End, Fault, ReadFailed, WriteFailed}
+use Rattle.cil_commands.specs.declared.reply.End.{End as CommandEnd}
+use Rattle.cil_commands.specs.declared.reply.End.TheVariants as ends
+use Rattle.cil_commands.specs.server.Served.{Served}
+use Rattle.cil_commands.specs.server.Served.TheVariants.{Quit, End, Fault, ReadFailed, WriteFailed}
 use Rattle.cil_sexpr.specs.declared.fault.ReadError.{ReadError}
 use Rattle.cil_sexpr.specs.declared.fault.ReadError.TheVariants as read
 use Rattle.cilhost.specs.declared.program.Streams.{Streams}
@@ -30,6 +32,13 @@ status_of End = status.Done
 status_of (Fault code) = if code == 0 then status.NoMemory else status.Usage
 status_of ReadFailed = status.Failed
 status_of WriteFailed = status.Failed
+
+-- the status after a command with this end
+abbrev pub end_status : CommandEnd → Status
+end_status ends.Done = status.Done
+end_status ends.Refused = status.Refused
+end_status ends.NoMemory = status.NoMemory
+end_status ends.WriteFailed = status.Failed
 
 -- the status where the program stops early
 abbrev pub error_status : Error → Status

@@ -1,7 +1,11 @@
+pub mod Answered
 pub mod Arguments
 pub mod Checks
 pub mod Commands
+pub mod Compiles
+pub mod Decides
 pub mod Ends
 pub mod Located
 pub mod Reading
 pub mod Sessions
+pub mod Written

@@ -1,9 +1,9 @@
 -- What the subcommand `session` does: a host installs the files, and then serves the requests. This project's profile.
 use Rattle.std.specs.Prelude.{◌≡◌, ◌⊎◌, ◌+◌, ℕ, List, Some, None, map}
 use Rattle.std.specs.Borrow.{Bor}
-use Rattle.cil_host.specs.Machine.{State}
-use Rattle.cil_server.specs.Session.{Serves, reader_failures, writer_failures}
-use Rattle.cil_server.specs.declared.served.Served.{Served}
+use Rattle.cil_commands.specs.host.Machine.{State}
+use Rattle.cil_commands.specs.server.Session.{Serves, reader_failures, writer_failures}
+use Rattle.cil_commands.specs.server.Served.{Served}
 use Rattle.cilhost.specs.Ends.{error_status, status_of}
 use Rattle.cilhost.specs.Reading.{Failure, HasJust, IsDue, Known}
 use Rattle.cilhost.specs.declared.error.Error.{Error}

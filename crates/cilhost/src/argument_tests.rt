@@ -3,7 +3,7 @@
 use crate::in_memory::{Closed, FILLED, Left, program};
 use crate::program::{Streams, run};
 use crate::status::Status;
-use cil_server::Counted;
+use cil_commands::Counted;
 use std::test::Fail;
 
 /// Whether a text has a part.
@@ -52,6 +52,30 @@ const WRONG: &[(&[&str], &str)] = &[
     ),
     (&["check", "good.cil", "-x"], "unexpected argument '-x'"),
     (&["help", "serve"], "unrecognized subcommand 'serve'"),
+    (
+        &["compile", "good.cil"],
+        "the following required arguments were not provided",
+    ),
+    (
+        &["compile", "--out", "t"],
+        "the following required arguments were not provided",
+    ),
+    (
+        &["compile", "--out"],
+        "a value is required for '--out <T>' but none was supplied",
+    ),
+    (
+        &["decide", "u:r:a", "u:r:b", "file"],
+        "the following required arguments were not provided",
+    ),
+    (
+        &["decide", "--tables", "t", "u:r:a", "u:r:b"],
+        "the following required arguments were not provided",
+    ),
+    (
+        &["decide", "--tables", "t", "u:r:a", "u:r:b", "file", "read"],
+        "unexpected argument 'read'",
+    ),
 ];
 
 /// Whether wrong words are reported on standard error, and nothing else.
@@ -113,6 +137,22 @@ const HELP: &[(&[&str], &str)] = &[
     (&["locate", "-h"], "Usage: cilhost locate"),
     (&["check", "--help"], "1  the policy is refused"),
     (&["help", "check"], "cilhost check base.cil app.cil"),
+    (
+        &["compile", "-h"],
+        "Usage: cilhost compile --out <T> <FILE>...",
+    ),
+    (
+        &["compile", "--help"],
+        "0  the policy is accepted, and T has its tables",
+    ),
+    (
+        &["decide", "-h"],
+        "Usage: cilhost decide --tables <PATH> <SOURCE> <TARGET> <CLASS>",
+    ),
+    (
+        &["decide", "--help"],
+        "91 to 96  PATH is not a compiled policy",
+    ),
 ];
 
 /// Whether help is on standard output, and nothing else.
@@ -202,6 +242,57 @@ const CHECKS: &[(&[&str], Status, &str, &str)] = &[
 #[test]
 fn a_check_is_asked_for_by_its_name(rt: HostRuntime) -> Result<(), Fail> {
     for &(words, status, output, messages) in CHECKS {
+        assert!(rt;
+            program(rt.alloc(), words)?.is(status, output, messages),
+            "{words:?}"
+        );
+    }
+    Ok(())
+}
+
+/// Words that ask for tables, and the status, the output and the messages that it ends with. In these files nothing can be written.
+const TABLES: &[(&[&str], Status, &str, &str)] = &[
+    (
+        &["compile", "--out", "t", "good.cil"],
+        Status::Failed,
+        "",
+        "cilhost: t: failed\n",
+    ),
+    (
+        &["compile", "faulty.cil", "--out=t"],
+        Status::Refused,
+        "FAULTS 1\n41 0 20 . a\n",
+        "",
+    ),
+    (
+        &["compile", "--out", "t", "good.cil", "bad.cil"],
+        Status::Refused,
+        "",
+        "cilhost: bad.cil: refused 3 8\n",
+    ),
+    (
+        &["decide", "--tables", "none.cil", "u:r:a", "u:r:b", "file"],
+        Status::Failed,
+        "",
+        "cilhost: none.cil: failed\n",
+    ),
+    (
+        &["decide", "--tables", "good.cil", "u:r:a", "u:r:b", "file"],
+        Status::Refused,
+        "ERR 91\n",
+        "",
+    ),
+    (
+        &["decide", "u:r:a", "u:r:b", "--tables=empty.cil", "file"],
+        Status::Refused,
+        "ERR 93\n",
+        "",
+    ),
+];
+
+#[test]
+fn tables_are_asked_for_by_their_names(rt: HostRuntime) -> Result<(), Fail> {
+    for &(words, status, output, messages) in TABLES {
         assert!(rt;
             program(rt.alloc(), words)?.is(status, output, messages),
             "{words:?}"

@@ -1,11 +1,11 @@
 //! The arguments of the program: their words, and what they ask for.
 
-ghost use Rattle.std.specs.Prelude.{◌≡◌, ◌⊎◌, ℕ, List, Option, IfErr, IfOk, codes, false, map, string_bytes};
+ghost use Rattle.std.specs.Prelude.{◌≡◌, [], ℕ, List, Option, IfErr, IfOk, codes, false, map, string_bytes};
 ghost use Rattle.clap.specs.Simple.{app_of};
 ghost use Rattle.clap.specs.Walk.{rule_of};
 ghost use Rattle.clap.specs.Words.{kind_of};
-ghost use Rattle.cilhost.specs.Arguments.{AreOf, AskForCheck, AskForSession, HasSize};
-ghost use Rattle.cilhost.specs.Commands.{IsCommand, cache_rule, check, file_rule, locate, optionals_rule, program, session};
+ghost use Rattle.cilhost.specs.Arguments.{AreOf, AskForCheck, AskForCompile, AskForDecide, AskForOne, AskForSession, HasQuery, HasSize, HasWord};
+ghost use Rattle.cilhost.specs.Commands.{IsCommand, cache_rule, check, compile, decide, file_rule, locate, optionals_rule, out_rule, program, program_of_modules, session, tables_rule, word_rule};
 
 use crate::error::Error;
 use crate::help;
@@ -27,6 +27,27 @@ pub const LOCATE: &str = "locate";
 /// The name of its flag, which asks for the optionals that are left out too.
 pub const OPTIONALS: &str = "optionals";
 
+/// The name of the subcommand that writes the tables of a policy.
+pub const COMPILE: &str = "compile";
+
+/// The name of its option that says to which file.
+pub const OUT: &str = "out";
+
+/// The name of the subcommand that asks the tables of a file.
+pub const DECIDE: &str = "decide";
+
+/// The name of its option that says which file.
+pub const TABLES: &str = "tables";
+
+/// The name of the source of a query.
+pub const SOURCE: &str = "SOURCE";
+
+/// The name of its target.
+pub const TARGET: &str = "TARGET";
+
+/// The name of its class.
+pub const CLASS: &str = "CLASS";
+
 /// The name of the option of a session that says how many decisions its cache may hold.
 pub const CACHE: &str = "cache";
 
@@ -47,8 +68,11 @@ pub fn matches<'a>(alloc: Global, words: &'a [String]) -> Result<ArgMatches<'a>,
     ensures session { (size : Option (List ℕ)) (files : List (List ℕ)) → AskForSession (map string_bytes words.now) size files
         → IfOk result (λ found. AreOf (codes "session") files found × HasSize size found) }
     ensures check { (files : List (List ℕ)) → AskForCheck (map string_bytes words.now) files → IfOk result (AreOf (codes "check") files) }
-    ensures accepts { (size : Option (List ℕ)) (files : List (List ℕ)) → AskForSession (map string_bytes words.now) size files ⊎ AskForCheck (map string_bytes words.now) files
-        → IfErr result (λ error. kind_of error ≡ ErrorKind.OutOfMemory) }
+    ensures compile { (out : List ℕ) (files : List (List ℕ)) → AskForCompile (map string_bytes words.now) out files
+        → IfOk result (λ found. AreOf (codes "compile") files found × HasWord (codes "out") out found) }
+    ensures decide { (path source target class_name : List ℕ) → AskForDecide (map string_bytes words.now) path source target class_name
+        → IfOk result (λ found. AreOf (codes "decide") [] found × HasQuery path source target class_name found) }
+    ensures accepts { AskForOne (map string_bytes words.now) → IfErr result (λ error. kind_of error ≡ ErrorKind.OutOfMemory) }
 {
     let program = program_command(alloc)?;
     program.try_get_matches_from(words)
@@ -69,7 +93,19 @@ fn program_command<'a>(alloc: Global) -> Result<Command<'a>, AllocError>
     let check = check_command(alloc)?;
     let with_check = with_session.subcommand(check)?;
     let locate = locate_command(alloc)?;
-    with_check.subcommand(locate)
+    let with_locate = with_check.subcommand(locate)?;
+    with_tables(alloc, with_locate)
+}
+
+/// The program with the subcommands on files of tables.
+fn with_tables<'a>(alloc: Global, before: Command<'a>) -> Result<Command<'a>, AllocError>
+    requires { app_of before ≡ program_of_modules }
+    ensures { IfOk result (λ command. app_of command ≡ program) }
+{
+    let compile = compile_command(alloc)?;
+    let with_compile = before.subcommand(compile)?;
+    let decide = decide_command(alloc)?;
+    with_compile.subcommand(decide)
 }
 
 fn session_command<'a>(alloc: Global) -> Result<Command<'a>, AllocError>
@@ -104,6 +140,30 @@ fn locate_command<'a>(alloc: Global) -> Result<Command<'a>, AllocError>
     over_files.arg(optionals_argument(alloc))
 }
 
+fn compile_command<'a>(alloc: Global) -> Result<Command<'a>, AllocError>
+    ensures { IfOk result (IsCommand compile) }
+{
+    let over_files = Command::new(alloc, COMPILE)
+        .about(help::COMPILE)
+        .long_about(help::COMPILE_LONG)
+        .after_long_help(help::COMPILE_MORE)
+        .arg(file_argument(alloc, 1))?;
+    over_files.arg(out_argument(alloc))
+}
+
+fn decide_command<'a>(alloc: Global) -> Result<Command<'a>, AllocError>
+    ensures { IfOk result (IsCommand decide) }
+{
+    let over_tables = Command::new(alloc, DECIDE)
+        .about(help::DECIDE)
+        .long_about(help::DECIDE_LONG)
+        .after_long_help(help::DECIDE_MORE)
+        .arg(tables_argument(alloc))?;
+    let of_source = over_tables.arg(word_argument(alloc, SOURCE, help::SOURCE))?;
+    let onto_target = of_source.arg(word_argument(alloc, TARGET, help::TARGET))?;
+    onto_target.arg(word_argument(alloc, CLASS, help::CLASS))
+}
+
 fn optionals_argument<'a>(alloc: Global) -> Arg<'a>
     ensures rule { rule_of result ≡ optionals_rule }
     ensures local { result.global ≡ false }
@@ -123,6 +183,41 @@ fn cache_argument<'a>(alloc: Global) -> Arg<'a>
         .value_name("N")
         .action(ArgAction::Set)
         .help(help::CACHE)
+}
+
+fn out_argument<'a>(alloc: Global) -> Arg<'a>
+    ensures rule { rule_of result ≡ out_rule }
+    ensures local { result.global ≡ false }
+{
+    Arg::new(alloc, OUT)
+        .long(OUT)
+        .value_name("T")
+        .action(ArgAction::Set)
+        .required(true)
+        .help(help::OUT)
+}
+
+fn tables_argument<'a>(alloc: Global) -> Arg<'a>
+    ensures rule { rule_of result ≡ tables_rule }
+    ensures local { result.global ≡ false }
+{
+    Arg::new(alloc, TABLES)
+        .long(TABLES)
+        .value_name("PATH")
+        .action(ArgAction::Set)
+        .required(true)
+        .help(help::TABLES)
+}
+
+/// A word that has to be there.
+fn word_argument<'a>(alloc: Global, name: &'a str, about: &'a str) -> Arg<'a>
+    ensures rule { rule_of result ≡ word_rule name.now }
+    ensures local { result.global ≡ false }
+{
+    Arg::new(alloc, name)
+        .action(ArgAction::Set)
+        .required(true)
+        .help(about)
 }
 
 /// The files of a subcommand, of which there are this many at least.

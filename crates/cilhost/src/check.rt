@@ -1,7 +1,7 @@
 //! The subcommand `check`: a host that is given files, and then loads them.
 
 ghost use Rattle.std.specs.Prelude.{◌≡◌, ◌<◌, ◌+◌, ◌⊎◌};
-ghost use Rattle.cil_server.specs.Devices.{most_failures};
+ghost use Rattle.cil_commands.specs.server.Devices.{most_failures};
 ghost use Rattle.cilhost.specs.Checks.{HasFaults, IsCheck, load_status};
 ghost use Rattle.cilhost.specs.Reading.{HasFailed, HasRefused};
 
@@ -10,7 +10,7 @@ use crate::error::{Error, STREAMS};
 use crate::session::prepared;
 use crate::status::Status;
 use crate::system::System;
-use cil_server::{LoadEnd, Sink, load};
+use cil_commands::{LoadEnd, Sink, load};
 use std::alloc::Global;
 use std::io::Write;
 

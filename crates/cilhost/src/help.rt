@@ -27,7 +27,8 @@ pub const EXAMPLE: &str = "Example:
   printf 'LOAD\\nAV u:r:a u:r:b file\\nQUIT\\n' | cilhost session base.cil app.cil
 
 `cilhost check FILE..` says by its exit status whether a policy is accepted. `cilhost session
---help` describes the requests of a session, and what the numbers in its replies mean.";
+--help` describes the requests of a session, and what the numbers in its replies mean. `cilhost
+compile --out T FILE..` writes the compiled policy to T, and `cilhost decide --tables T` asks it.";
 
 /// What a session does, in one line.
 pub const SESSION: &str = "Installs files, then answers requests from standard input";
@@ -87,6 +88,86 @@ Exit status:
   2  wrong arguments
   3  a file or standard output failed
   4  out of memory. If it was LOAD that ran out of memory, its reply is ERR 0";
+
+/// What `compile` does, in one line.
+pub const COMPILE: &str = "Installs files, compiles them, and writes the compiled policy to a file";
+
+/// What `compile` does.
+pub const COMPILE_LONG: &str =
+    "Installs files, compiles them, and writes the compiled policy to a file.
+
+The FILEs are installed from left to right, and then compiled together. If the policy is accepted,
+its tables are written to T, in place of a file of this name that there may be. Standard output has
+the reply of LOAD, as of `cilhost check`: OK LENGTH DIGEST, with the length in bytes and the SHA-256
+of T, or FAULTS with how many there are, and a line for each. If a FILE or the policy is refused, T
+is left as it was. The same modules give the same bytes, in whatever order they came. The subcommand
+`cilhost decide` asks the tables of T. Standard input is not read.";
+
+/// To which file tables are written.
+pub const OUT: &str = "The file that the tables of the policy are written to";
+
+/// An example of `compile` and the exit statuses.
+pub const COMPILE_MORE: &str = "Example:
+  $ cilhost compile --out policy.tables base.cil app.cil
+  OK 159 d45931ea9f06a9ced7e809682adb159f8b38c8e71f6a219ba0a5eab997e73225
+  $ sha256sum policy.tables
+  d45931ea9f06a9ced7e809682adb159f8b38c8e71f6a219ba0a5eab997e73225  policy.tables
+
+`cilhost session --help` describes the lines of faults, and what each number means.
+
+Exit status:
+  0  the policy is accepted, and T has its tables
+  1  the policy is refused: standard output has its faults. Or a FILE was refused: standard error
+     has its first fault, with its number and its place in bytes
+  2  wrong arguments
+  3  a file or standard output failed. If writing T failed, nothing is said of what T holds. If
+     standard output failed, T may be written
+  4  out of memory: T is left as it was, unless the system had no memory to write it. If it was the
+     compilation that ran out of memory, standard output has ERR 0";
+
+/// What `decide` does, in one line.
+pub const DECIDE: &str = "Asks a compiled policy what a process may do to an object";
+
+/// What `decide` does.
+pub const DECIDE_LONG: &str = "Asks a compiled policy what a process may do to an object.
+
+PATH is a file that `cilhost compile` wrote. Standard output has what a process in the context
+SOURCE may do to an object of CLASS in the context TARGET, while each boolean of the policy has its
+default: the reply of AV, which is OK, then the permissions that are allowed, those audited when
+allowed, and those audited when denied (- for none), or ERR and a number. Standard input is not
+read.";
+
+/// Which tables are asked.
+pub const TABLES: &str = "A file that `cilhost compile` wrote, of at most 1073741824 bytes";
+
+/// The source of a query.
+pub const SOURCE: &str = "The context of the process, as in user:role:type";
+
+/// The target of a query.
+pub const TARGET: &str = "The context of the object";
+
+/// The class of a query.
+pub const CLASS: &str = "The class of the object";
+
+/// An example of `decide`, its numbers and the exit statuses.
+pub const DECIDE_MORE: &str = "Example:
+  $ cilhost decide --tables policy.tables u:r:a u:r:b file
+  OK read - open,read
+
+Numbers after ERR:
+  72 1      SOURCE is not a valid context
+  72 2      TARGET is not a valid context
+  73        there is no class CLASS
+  91 to 96  PATH is not a compiled policy. 91: it does not begin as one. 92: it has another layout.
+            93: it is cut off. 94: what is in it is not in order. 95: a number, name or count is
+            out of range. 96: bytes follow its end
+
+Exit status:
+  0  standard output has the permissions
+  1  standard output has ERR and a number
+  2  wrong arguments
+  3  PATH or standard output failed, or PATH is longer than 1073741824 bytes
+  4  out of memory";
 
 /// What `locate` does, in one line.
 pub const LOCATE: &str = "Says of each fault of a policy the file, the line and the column";

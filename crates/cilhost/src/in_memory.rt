@@ -1,16 +1,19 @@
 //! Files, streams and whole runs in memory, for the tests.
 
-ghost use Rattle.std.specs.Prelude.{◌≡◌, ◌≤◌, Some, find, option_map};
+ghost use Rattle.std.specs.Prelude.{◌≡◌, ◌≤◌, ◌∷◌, ◌++◌, [], IfOk, OnErr, OnOk, Some, find, map, option_map};
 ghost use Rattle.std.specs.Str.{bytes_eq};
 
 use crate::capacity::CAPACITY;
 use crate::check::run_check;
+use crate::compile::run_compile;
+use crate::decide::{Query, run_decide};
 use crate::locate::run_locate;
 use crate::program::{Streams, run};
 use crate::session::run_session;
 use crate::status::Status;
 use crate::system::{System, note, start_of};
-use cil_server::Counted;
+use cil_base::{Bytes, NoMemory};
+use cil_commands::Counted;
 use std::alloc::{AllocError, Global};
 use std::hash::{BuildHasherDefault, DefaultHasher};
 use std::io::{self, ErrorKind, Read, Write};
@@ -64,6 +67,12 @@ impl System for MemorySystem<'_> {
         text
     }
 
+    fn write(&mut self, _name: &str, _bytes: &[u8]) -> io::Result<()> {
+        let done = Err(io::Error::from(ErrorKind::PermissionDenied));
+        note(&mut self.failure, &done);
+        done
+    }
+
     fn hasher(&mut self) -> io::Result<BuildHasherDefault<DefaultHasher>> {
         let hasher = match self.no_hasher {
             Some(kind) => Err(io::Error::from(kind)),
@@ -72,6 +81,79 @@ impl System for MemorySystem<'_> {
         note(&mut self.failure, &hasher);
         hasher
     }
+}
+
+/// A file that was written whole.
+#[derive(Drop)]
+pub struct WrittenFile {
+    name: Bytes,
+    bytes: Bytes,
+}
+
+impl WrittenFile {
+    /// Whether it has just this name and these bytes.
+    pub fn is(&self, name: &str, bytes: &[u8]) -> bool {
+        self.name.as_slice() == name.as_bytes() && self.bytes.as_slice() == bytes
+    }
+}
+
+/// A system in memory that keeps what is written: the files that it reads, and the error that writing a file gives, if it gives one.
+#[derive(Drop)]
+pub struct KeepingSystem<'a> {
+    pub alloc: Global,
+    pub files: MemorySystem<'a>,
+    pub written: Vec<WrittenFile>,
+    pub fails: Option<ErrorKind>,
+}
+
+impl System for KeepingSystem<'_> {
+    ghost holds = { λ s name. option_map (λ f. f.1.now) (find (λ f. bytes_eq f.0.now name) s.files.files.now) };
+
+    ghost written = { λ s. Some (map (λ f. (f.name, f.bytes)) s.written.items) };
+
+    ghost failure = { λ s. s.files.failure };
+
+    type Hasher = BuildHasherDefault<DefaultHasher>;
+
+    fn read(&mut self, alloc: Global, name: &str, limit: u64) -> io::Result<Vec<u8>> {
+        self.files.read(alloc, name, limit)
+    }
+
+    fn write(&mut self, name: &str, bytes: &[u8]) -> io::Result<()> {
+        let done = match self.fails {
+            Some(kind) => Err(io::Error::from(kind)),
+            None => keep(self.alloc, &mut self.written, name, bytes),
+        };
+        note(&mut self.files.failure, &done);
+        done
+    }
+
+    fn hasher(&mut self) -> io::Result<BuildHasherDefault<DefaultHasher>> {
+        self.files.hasher()
+    }
+}
+
+/// Keeps one file more.
+fn keep(alloc: Global, written: &mut Vec<WrittenFile>, name: &str, bytes: &[u8]) -> io::Result<()>
+    ensures whole { OnOk result (written.new.items ≡ written.old.items ++ record { name = name.now; bytes = bytes.now } ∷ []) }
+    ensures part { OnErr result (written.new.items ≡ written.old.items) }
+{
+    match copied(alloc, name, bytes) {
+        Ok(file) => match written.push(file) {
+            Ok(()) => Ok(()),
+            Err(_) => Err(io::Error::from(ErrorKind::OutOfMemory)),
+        },
+        Err(NoMemory) => Err(io::Error::from(ErrorKind::OutOfMemory)),
+    }
+}
+
+/// A file with a copy of this name and these bytes.
+fn copied(alloc: Global, name: &str, bytes: &[u8]) -> Result<WrittenFile, NoMemory>
+    ensures { IfOk result (λ file. file ≡ record { name = name.now; bytes = bytes.now }) }
+{
+    let name = Bytes::copy_of(alloc, name.as_bytes())?;
+    let bytes = Bytes::copy_of(alloc, bytes)?;
+    Ok(WrittenFile { name, bytes })
 }
 
 /// The first file of a name.
@@ -189,6 +271,40 @@ pub fn check(alloc: Global, mut system: MemorySystem<'_>, files: &[&str]) -> Lef
     let mut output = Counted::new(Vec::new(alloc));
     let mut messages = Vec::new(alloc);
     let status = run_check(alloc, files, &mut system, &mut output, &mut messages);
+    Left {
+        status,
+        output: output.into_inner(),
+        messages,
+    }
+}
+
+/// Files in memory, of which none is written yet.
+pub fn keeping<'a>(alloc: Global, files: MemorySystem<'a>) -> KeepingSystem<'a> {
+    KeepingSystem {
+        alloc,
+        files,
+        written: Vec::new(alloc),
+        fails: None,
+    }
+}
+
+/// A compilation of files in memory to the file `t`.
+pub fn compile(alloc: Global, system: &mut KeepingSystem<'_>, files: &[&str]) -> Left {
+    let mut output = Counted::new(Vec::new(alloc));
+    let mut messages = Vec::new(alloc);
+    let status = run_compile(alloc, "t", files, system, &mut output, &mut messages);
+    Left {
+        status,
+        output: output.into_inner(),
+        messages,
+    }
+}
+
+/// A query of the file `t` in memory.
+pub fn decide(alloc: Global, mut system: MemorySystem<'_>, query: Query<'_>) -> Left {
+    let mut output = Counted::new(Vec::new(alloc));
+    let mut messages = Vec::new(alloc);
+    let status = run_decide(alloc, "t", query, &mut system, &mut output, &mut messages);
     Left {
         status,
         output: output.into_inner(),

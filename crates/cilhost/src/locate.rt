@@ -1,7 +1,7 @@
 //! The subcommand `locate`: where the faults of some files are.
 
 ghost use Rattle.std.specs.Prelude.{◌≡◌, ◌<◌, ◌+◌, ◌⊎◌, ◌∷◌, [], IfErr, IfOk, OnOk};
-ghost use Rattle.cil_server.specs.Devices.{most_failures};
+ghost use Rattle.cil_commands.specs.server.Devices.{most_failures};
 ghost use Rattle.cilhost.specs.Located.{AreFiles, IsFileOf, IsLocate, IsUnread, located_status};
 ghost use Rattle.cilhost.specs.Reading.{HasFailed};
 
@@ -9,8 +9,8 @@ use crate::error::{Error, STREAMS};
 use crate::session::LONGEST;
 use crate::status::Status;
 use crate::system::System;
+use cil_commands::Sink;
 use cil_locate::{File, Located, locate};
-use cil_server::Sink;
 use std::alloc::Global;
 use std::io::Write;
 

@@ -10,11 +10,15 @@ mod argument_tests;
 mod arguments;
 mod capacity;
 mod check;
+mod compile;
+mod decide;
+mod ended;
 mod error;
 mod help;
 #[cfg(test)]
 mod in_memory;
 mod locate;
+mod modules;
 mod program;
 #[cfg(test)]
 mod search_tests;
@@ -22,12 +26,14 @@ mod session;
 mod status;
 mod system;
 #[cfg(test)]
+mod table_tests;
+#[cfg(test)]
 mod tests;
 
 use crate::arguments::words;
 use crate::program::{Streams, run};
 use crate::system::Machine;
-use cil_server::Counted;
+use cil_commands::Counted;
 use std::process::ExitCode;
 
 fn main(rt: HostRuntime) -> ExitCode {

@@ -1,24 +1,33 @@
 //! The program over its words and its streams.
 
-ghost use Rattle.std.specs.Prelude.{◌≡◌, ◌≢◌, ◌⊎◌, ◌<◌, ℕ, Bool, List, Option, IfErr, map, option_map, string_bytes};
+ghost use Rattle.std.specs.Prelude.{◌≡◌, ◌≢◌, ◌⊎◌, ◌<◌, ℕ, List, Option, Some, IfErr, codes, map, option_map, string_bytes};
+ghost use Rattle.clap.specs.Matches.{first_value, found_of};
 ghost use Rattle.clap.specs.Words.{kind_of};
-ghost use Rattle.cil_server.specs.Devices.{most_failures};
-ghost use Rattle.cilhost.specs.Arguments.{AskForCheck, AskForSession, AsksForCache, HasNoCapacity};
-ghost use Rattle.cilhost.specs.Checks.{HasChecked, RunsCheck};
+ghost use Rattle.cil_commands.specs.server.Devices.{most_failures};
+ghost use Rattle.cilhost.specs.Answered.{HasAnswered};
+ghost use Rattle.cilhost.specs.Arguments.{AskForCheck, AskForCompile, AskForDecide, AskForSession, AsksForCache, HasNoCapacity, HasWords};
+ghost use Rattle.cilhost.specs.Checks.{RunsCheck};
+ghost use Rattle.cilhost.specs.Compiles.{IsCompile, RunsCompile};
+ghost use Rattle.cilhost.specs.Decides.{IsDecide, RunsDecide};
 ghost use Rattle.cilhost.specs.Ends.{HasServedNothing, answer_to, error_status};
-ghost use Rattle.cilhost.specs.Located.{HasLocated};
 ghost use Rattle.cilhost.specs.Sessions.{IsSession, RunsSession};
 ghost use Rattle.std.specs.Borrow.{Bor};
 
-use crate::arguments::{CACHE, CHECK, FILE, LOCATE, OPTIONALS, SESSION, matches};
+use crate::arguments::{
+    CACHE, CHECK, CLASS, COMPILE, DECIDE, FILE, LOCATE, OPTIONALS, OUT, SESSION, SOURCE, TABLES,
+    TARGET, matches,
+};
 use crate::capacity::{capacity_of, refuse};
 use crate::check::run_check;
+use crate::compile::run_compile;
+use crate::decide::{Query, run_decide};
 use crate::error::{Error, STREAMS};
 use crate::locate::run_locate;
 use crate::session::run_session;
 use crate::status::Status;
 use crate::system::System;
-use cil_server::{Sink, Source};
+use cil_commands::{Sink, Source};
+use clap::ArgMatches;
 use clap::error::ErrorKind;
 use std::alloc::Global;
 use std::io::Write;
@@ -56,12 +65,20 @@ pub fn run<Y: System, R: Source, W: Sink, E: Write>(
         → RunsCheck (Y.holds system.old) (Y.failure system.old) (Y.failure system.new) names streams.old.output streams.new.output
         (record { bytes = W.contents streams.old.output; failures = W.failed streams.old.output }) (record { bytes = W.contents streams.new.output; failures = W.failed streams.new.output }) result
         × (streams.new.input ≡ streams.old.input) }
-    // Where the status is that of a refusal, nothing was read or written, or a check has replied, or faults were located.
+    // A compilation that is asked for by its name, over such files, to a file of such a name.
+    ensures compile { (out : List ℕ) (names : List (List ℕ)) → AskForCompile (map string_bytes words.now) out names
+        → RunsCompile (Y.holds system.old) (Y.failure system.old) (Y.failure system.new) out names (Y.written system.old) (Y.written system.new) streams.old.output streams.new.output
+        (record { bytes = W.contents streams.old.output; failures = W.failed streams.old.output }) (record { bytes = W.contents streams.new.output; failures = W.failed streams.new.output }) result
+        × (streams.new.input ≡ streams.old.input) }
+    // A query of tables that is asked for by its name, of a file of such a name, with such words.
+    ensures decide { (path source target class_name : List ℕ) → AskForDecide (map string_bytes words.now) path source target class_name
+        → RunsDecide (Y.holds system.old) (Y.failure system.old) (Y.failure system.new) path source target class_name streams.old.output streams.new.output
+        (record { bytes = W.contents streams.old.output; failures = W.failed streams.old.output }) (record { bytes = W.contents streams.new.output; failures = W.failed streams.new.output }) result
+        × (streams.new.input ≡ streams.old.input) }
+    // Where the status is that of a refusal, nothing was read or written, or a subcommand other than a session has replied.
     ensures unserved { result ≡ Status.Refused → HasServedNothing streams.old streams.new
-        ⊎ ((streams.new.input ≡ streams.old.input) × (((files : List (Bor (List ℕ))) × HasChecked (Y.holds system.old) (Y.failure system.old) (Y.failure system.new) files
-        (record { bytes = W.contents streams.old.output; failures = W.failed streams.old.output }) (record { bytes = W.contents streams.new.output; failures = W.failed streams.new.output }) result)
-        ⊎ ((names : List (Bor (List ℕ))) × (optionals : Bool) × HasLocated (Y.holds system.old) (Y.failure system.old) (Y.failure system.new) names optionals
-        (record { bytes = W.contents streams.old.output; failures = W.failed streams.old.output }) (record { bytes = W.contents streams.new.output; failures = W.failed streams.new.output }) result))) }
+        ⊎ ((streams.new.input ≡ streams.old.input) × HasAnswered (Y.holds system.old) (Y.failure system.old) (Y.failure system.new) (Y.written system.old) (Y.written system.new)
+        (record { bytes = W.contents streams.old.output; failures = W.failed streams.old.output }) (record { bytes = W.contents streams.new.output; failures = W.failed streams.new.output }) result) }
     // The input is read by a session alone.
     ensures only { (streams.new.input ≡ streams.old.input)
         ⊎ ((files : List (Bor (List ℕ))) × IsSession (Y.holds system.old) (Y.failure system.old) (Y.failure system.new) files
@@ -88,6 +105,30 @@ pub fn run<Y: System, R: Source, W: Sink, E: Write>(
             &mut streams.messages,
         );
     }
+    other_command(alloc, name, arguments, files, system, streams)
+}
+
+/// A subcommand that is neither a session nor a check, with its arguments and its files. Returns the status to end with.
+fn other_command<Y: System, R, W: Sink, E: Write>(
+    alloc: Global,
+    name: &str,
+    arguments: &ArgMatches<'_>,
+    files: &[&str],
+    system: &mut Y,
+    streams: &mut Streams<R, W, E>,
+) -> Status
+    requires { W.failed streams.old.output < most_failures }
+    ensures compile { (out : List ℕ) → name.now ≡ codes "compile" → first_value (found_of arguments.now) (codes "out") ≡ Some out
+        → (word : Bor (List ℕ)) × (word.now ≡ out) × IsCompile (Y.holds system.old) (Y.failure system.old) (Y.failure system.new) files.now word (Y.written system.old) (Y.written system.new) streams.old.output streams.new.output
+        (record { bytes = W.contents streams.old.output; failures = W.failed streams.old.output }) (record { bytes = W.contents streams.new.output; failures = W.failed streams.new.output }) result }
+    ensures decide { (path source target class_name : List ℕ) → name.now ≡ codes "decide" → HasWords (found_of arguments.now) path source target class_name
+        → (word : Bor (List ℕ)) × (word.now ≡ path) × IsDecide (Y.holds system.old) (Y.failure system.old) (Y.failure system.new) word source target class_name streams.old.output streams.new.output
+        (record { bytes = W.contents streams.old.output; failures = W.failed streams.old.output }) (record { bytes = W.contents streams.new.output; failures = W.failed streams.new.output }) result }
+    ensures unserved { result ≡ Status.Refused → (streams.new.output ≡ streams.old.output)
+        ⊎ HasAnswered (Y.holds system.old) (Y.failure system.old) (Y.failure system.new) (Y.written system.old) (Y.written system.new)
+        (record { bytes = W.contents streams.old.output; failures = W.failed streams.old.output }) (record { bytes = W.contents streams.new.output; failures = W.failed streams.new.output }) result }
+    ensures unread { streams.new.input ≡ streams.old.input }
+{
     if name == LOCATE {
         let optionals = arguments.get_flag(OPTIONALS);
         return run_locate(
@@ -99,7 +140,41 @@ pub fn run<Y: System, R: Source, W: Sink, E: Write>(
             &mut streams.messages,
         );
     }
+    if name == COMPILE {
+        let out = arguments.get_str(OUT).unwrap_or("");
+        return run_compile(
+            alloc,
+            out,
+            files,
+            system,
+            &mut streams.output,
+            &mut streams.messages,
+        );
+    }
+    if name == DECIDE {
+        let path = arguments.get_str(TABLES).unwrap_or("");
+        return run_decide(
+            alloc,
+            path,
+            query_of(arguments),
+            system,
+            &mut streams.output,
+            &mut streams.messages,
+        );
+    }
     Status::Usage
+}
+
+/// The query in the arguments.
+fn query_of<'a>(arguments: &ArgMatches<'a>) -> Query<'a>
+    ensures { (path source target class_name : List ℕ) → HasWords (found_of arguments.now) path source target class_name
+        → (result.source.now ≡ source) × (result.target.now ≡ target) × (result.class.now ≡ class_name) }
+{
+    Query {
+        source: arguments.get_str(SOURCE).unwrap_or(""),
+        target: arguments.get_str(TARGET).unwrap_or(""),
+        class: arguments.get_str(CLASS).unwrap_or(""),
+    }
 }
 
 /// A session with the word behind `--cache`, where there is one. Returns the status to end with.

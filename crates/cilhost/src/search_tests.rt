@@ -3,7 +3,7 @@
 use crate::check::run_check;
 use crate::in_memory::{Closed, FILLED, Left, check, located};
 use crate::status::Status;
-use cil_server::Counted;
+use cil_commands::Counted;
 
 /// The reply of LOAD to `faulty.cil` alone, as docs/FAULTS.md has it.
 const FAULTY: &str = "FAULTS 1\n41 0 20 . a\n";

@@ -2,7 +2,7 @@
 
 ghost use Rattle.std.specs.Prelude.{◌≡◌, ◌<◌, ◌≤◌, ◌+◌, ◌⊎◌, ℕ, [], None, IfErr, IfOk, OnErr, OnOk};
 ghost use Rattle.cil_modset.specs.Modules.{AreModules};
-ghost use Rattle.cil_server.specs.Devices.{most_failures};
+ghost use Rattle.cil_commands.specs.server.Devices.{most_failures};
 ghost use Rattle.cilhost.specs.Ends.{HasServedNothing, status_of};
 ghost use Rattle.cilhost.specs.Reading.{Adds, HasFailed, HasJust, HasRefused, IsDue, IsDueAt, StopsAt};
 ghost use Rattle.cilhost.specs.Sessions.{IsSession};
@@ -11,8 +11,7 @@ use crate::error::{Error, STREAMS};
 use crate::program::Streams;
 use crate::status::Status;
 use crate::system::System;
-use cil_host::Host;
-use cil_server::{Served, Sink, Source, serve};
+use cil_commands::{Host, Served, Sink, Source, serve};
 use cil_sexpr::LONGEST_TEXT;
 use std::alloc::Global;
 use std::hash::BuildHasher;

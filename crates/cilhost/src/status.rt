@@ -1,6 +1,6 @@
 //! The numbers that the program ends with.
 
-use cil_server::Served;
+use cil_commands::Served;
 
 /// How the program ended.
 #[derive(Clone, Copy, Debug, PartialEq, Eq)]

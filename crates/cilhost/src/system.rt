@@ -1,8 +1,9 @@
-//! What a session needs of the system beside its streams.
+//! What a command needs of the system beside its streams.
 
-ghost use Rattle.std.specs.Prelude.{◌≡◌, ℕ, List, Option, None, Some, IfErr, IfOk, IfSome, OnOk, take};
+ghost use Rattle.std.specs.Prelude.{◌≡◌, ℕ, List, Option, None, Some, IfErr, IfOk, IfSome, OnErr, OnOk, take};
 ghost use Rattle.std.specs.IoError.{error_kind};
 ghost use Rattle.cilhost.specs.Reading.{Failure, Known};
+ghost use Rattle.cilhost.specs.Written.{Written, with_file};
 
 use std::alloc::Global;
 use std::fs;
@@ -11,10 +12,13 @@ use std::io::{self, ErrorKind, Read};
 use std::random::RandomSource;
 use std::rt::Files;
 
-/// What a session needs of the system: files by their names, and what the host's cache hashes with.
+/// What a command needs of the system: files by their names, and what the host's cache hashes with.
 pub trait System {
     /// The bytes of the file of this name, where they are known.
     ghost holds: { Self → List ℕ → Known } = { λ _ _. None };
+
+    /// The files that were written whole, where that is known.
+    ghost written: { Self → Written } = { λ _. None };
 
     /// The kind of the error of the last call that failed.
     ghost failure: { Self → Failure };
@@ -26,12 +30,21 @@ pub trait System {
     fn read(&mut self, alloc: Global, name: &str, limit: u64) -> io::Result<Vec<u8>>
         ensures bytes { IfOk result (λ text. IfSome (holds self.old name.now) (λ bytes. text.items ≡ take limit bytes)) }
         ensures stays { holds self.new ≡ holds self.old }
+        ensures unwritten { written self.new ≡ written self.old }
+        ensures sound { OnOk result (failure self.new ≡ failure self.old) }
+        ensures failed { IfErr result (λ error. failure self.new ≡ Some (error_kind error)) };
+
+    /// Writes a file, in place of one of this name that there may be. After an error it is not known what the file holds.
+    fn write(&mut self, name: &str, bytes: &[u8]) -> io::Result<()>
+        ensures whole { OnOk result (written self.new ≡ with_file name.now bytes.now (written self.old)) }
+        ensures part { OnErr result (written self.new ≡ written self.old) }
         ensures sound { OnOk result (failure self.new ≡ failure self.old) }
         ensures failed { IfErr result (λ error. failure self.new ≡ Some (error_kind error)) };
 
     /// Makes what the host's cache hashes with.
     fn hasher(&mut self) -> io::Result<Self::Hasher>
         ensures stays { holds self.new ≡ holds self.old }
+        ensures unwritten { written self.new ≡ written self.old }
         ensures sound { OnOk result (failure self.new ≡ failure self.old) }
         ensures failed { IfErr result (λ error. failure self.new ≡ Some (error_kind error)) };
 }
@@ -62,6 +75,12 @@ impl<R: Files + RandomSource> System for Machine<'_, R> {
         let text = read_file(self.rt, alloc, name, limit);
         note(&mut self.failure, &text);
         text
+    }
+
+    fn write(&mut self, name: &str, bytes: &[u8]) -> io::Result<()> {
+        let done = fs::write(self.rt, name, bytes);
+        note(&mut self.failure, &done);
+        done
     }
 
     fn hasher(&mut self) -> io::Result<RandomState> {

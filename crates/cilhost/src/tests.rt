@@ -8,7 +8,7 @@ use crate::program::Streams;
 use crate::session::{end, run_session};
 use crate::status::Status;
 use crate::system::Machine;
-use cil_server::{Counted, Served};
+use cil_commands::{Counted, Served};
 use cil_sexpr::LONGEST_TEXT;
 use std::alloc::Global;
 use std::io::ErrorKind;

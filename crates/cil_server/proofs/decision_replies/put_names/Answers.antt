@@ -1,23 +1,22 @@
 use Rattle.std.proofs.Common.{◌≡◌, arith}
 use Rattle.cil_server.specs.Streams.{Tells}
-use Rattle.cil_server.proofs.NameLemmas.{bit_of, placed_by, told_all, told_bit, told_hyphen, told_none}
+use Rattle.cil_server.proofs.NameLemmas.{bit_of, told_all, told_bit, told_hyphen, told_none}
 use Rattle.cil_server.proofs.decision_replies.put_names.Goals as goal
 
 pub loop-bit-init : goal.loop-bit-init
-loop-bit-init g c = λ h class_ are. told_none h class_ c.args.mask c.args.output.now c.args.output.now c.args.output.now
+loop-bit-init g c = told_none c.args.names.now c.args.mask c.args.output.now c.args.output.now c.args.output.now
 
 pub loop-bit-preserved : goal.loop-bit-preserved
-loop-bit-preserved g c = λ h class_ are.
-    told_bit h class_ _ c.args.output.now c.loop-bit.output c.put_name-is_first.new.output _ _ _ (c.loop-bit.invariant h class_ are)
-    (bit_of h class_ _ _ _ _ c.named-name.result (Tells c.loop-bit.output c.put_name-is_first.new.output)
-    (placed_by h class_ _ _ c.args.names.now c.named-name.result are c.named-name.ensures) c.put_name-is_first.ensures)
+loop-bit-preserved g c =
+    told_bit c.args.names.now _ c.args.output.now c.loop-bit.output c.put_name-is_first.new.output _ _ _ c.loop-bit.invariant
+    (bit_of c.args.names.now _ _ _ _ c.named-name.result (Tells c.loop-bit.output c.put_name-is_first.new.output) c.named-name.ensures c.put_name-is_first.ensures)
 
 pub returns-then-is_first : goal.returns-then-is_first
-returns-then-is_first g c = λ h class_ are.
+returns-then-is_first g c = λ rising.
     let at : c.loop-bit.bit ≡ 32 = omega (arith, c.loop-bit-test.false, c.loop-bit.auto.bit-end) in
-    told_hyphen h class_ _ c.args.output.now c.loop-bit.output c.put.new.self _ _ (c.loop-bit.invariant h class_ are) at c.if-is_first.true c.put.ensures
+    told_hyphen c.args.names.now _ c.args.output.now c.loop-bit.output c.put.new.self _ _ rising c.loop-bit.invariant at c.if-is_first.true c.put.ensures
 
 pub returns-else-is_first : goal.returns-else-is_first
-returns-else-is_first g c = λ h class_ are.
+returns-else-is_first g c = λ rising.
     let at : c.loop-bit.bit ≡ 32 = omega (arith, c.loop-bit-test.false, c.loop-bit.auto.bit-end) in
-    told_all h class_ _ c.args.output.now c.loop-bit.output c.loop-bit.output _ _ (c.loop-bit.invariant h class_ are) at c.if-is_first.false
+    told_all c.args.names.now _ c.args.output.now c.loop-bit.output c.loop-bit.output _ _ rising c.loop-bit.invariant at c.if-is_first.false

@@ -1,10 +1,9 @@
 use Rattle.std.proofs.Common.{ap, ap₂, codes, true, ◌≡◌, ◌∙◌}
-use Rattle.std.proofs.lemmas.Result.{IfOk-weaker}
 use Rattle.clap.specs.Simple.{App, app_of, app_of_fields, new_app, on_top, with_subcommand}
 use Rattle.cilhost.proofs.arguments.program_command.Goals as goal
 
-pub returns : goal.returns
-returns c =
+pub with_tables-requires : goal.with_tables-requires
+with_tables-requires c =
     let versioned : app_of c.version.result ≡ on_top (λ s. record s { has_version = true }) (new_app (codes "cilhost")) =
     ap app_of_fields c.version.ensures ∙ ap (on_top (λ s. record s { has_version = true })) c.new.ensures.app in
     let described : app_of c.after_help.result ≡ on_top (λ s. record s { has_version = true }) (new_app (codes "cilhost")) =
@@ -13,5 +12,4 @@ returns c =
     let helped = ap app_of_fields c.arg_required_else_help.ensures ∙ ap (on_top (λ s. record s { arg_required_else_help = true })) required in
     let with_session = c.in_ok-with_session.ensures.shape c.in_ok-session.ensures.local ∙ ap₂ with_subcommand helped (ap (λ (a : App). a.top) c.in_ok-session.ensures.is_app) in
     let with_check = c.in_ok-with_check.ensures.shape c.in_ok-check.ensures.local ∙ ap₂ with_subcommand with_session (ap (λ (a : App). a.top) c.in_ok-check.ensures.is_app) in
-    IfOk-weaker c.subcommand-3.result _ _ (λ m adds. adds.shape c.in_ok-locate.ensures.local ∙ ap₂ with_subcommand with_check (ap (λ (a : App). a.top) c.in_ok-locate.ensures.is_app))
-    c.subcommand-3.ensures
+    c.in_ok-with_locate.ensures.shape c.in_ok-locate.ensures.local ∙ ap₂ with_subcommand with_check (ap (λ (a : App). a.top) c.in_ok-locate.ensures.is_app)

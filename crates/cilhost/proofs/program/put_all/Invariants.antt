@@ -1,5 +1,5 @@
 use Rattle.std.proofs.Common.{◌<◌, length}
-use Rattle.cil_server.specs.Devices.{most_failures}
+use Rattle.cil_commands.specs.server.Devices.{most_failures}
 use Rattle.cilhost.proofs.program.put_all.Given as goal
 
 -- no push has failed

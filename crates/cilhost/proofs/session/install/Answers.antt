@@ -1,4 +1,4 @@
-use Rattle.cil_host.specs.Machine.{same_state, unchanged}
+use Rattle.cil_commands.specs.host.Machine.{same_state, unchanged}
 use Rattle.cilhost.proofs.ReadingLemmas.{is_added, refusal_due, stay_modules}
 use Rattle.cilhost.proofs.session.install.Goals as goal
 

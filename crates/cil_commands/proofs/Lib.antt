@@ -1,0 +1,3 @@
+pub mod AskedLemmas
+pub mod LaidLemmas
+pub mod ToldLemmas

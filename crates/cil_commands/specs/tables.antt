@@ -1,0 +1,2 @@
+-- What crates above take of cil_tables.
+pub use Rattle.cil_server.specs.tables.CompileRefusal

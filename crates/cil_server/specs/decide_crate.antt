@@ -1,0 +1,3 @@
+-- What crates above take of cil_decide.
+pub use Rattle.cil_host.specs.decide_crate.Decides
+pub use Rattle.cil_host.specs.decide_crate.Decision
