@@ -40,7 +40,7 @@ The FILEs are installed from left to right. Then requests are read from standard
 and each reply is written to standard output, until QUIT or the end of the input.
 
 Decisions are kept for queries that come again: N of them at most, the latest ones. They take some
-600 bytes each. No reply depends on N. Another number than 1 to 65536 is a wrong argument.
+650 bytes each. No reply depends on N. Another number than 1 to 65536 is a wrong argument.
 
 A FILE may have the statements type, class, common, classcommon, role, user, roletype, userrole,
 roleallow, constrain, allow, auditallow, dontaudit, neverallow, boolean and booleanif; block,
