@@ -8,10 +8,10 @@ use Rattle.cil_decide.specs.mls.Categories.{Categories}
 use Rattle.cil_decide.specs.mls.Level.{Level}
 use Rattle.cil_decide.specs.constraints_crate.Context.{Context}
 use Rattle.cil_decide.specs.classes.ClassId.{ClassId}
-use Rattle.cil_decide.specs.mls.CategoriesPartialEq.TheImpl as categories
-use Rattle.cil_decide.specs.mls.LevelPartialEq.TheImpl as level
-use Rattle.cil_decide.specs.constraints_crate.ContextPartialEq.TheImpl as context
-use Rattle.cil_decide.specs.classes.ClassIdPartialEq.TheImpl as class_id
+use Rattle.cil_decide.proofs.mls_lemmas.CategoriesPartialEq.TheImpl as categories
+use Rattle.cil_decide.proofs.mls_lemmas.LevelPartialEq.TheImpl as level
+use Rattle.cil_decide.proofs.constraints_crate_lemmas.ContextPartialEq.TheImpl as context
+use Rattle.cil_decide.proofs.classes_lemmas.ClassIdPartialEq.TheImpl as class_id
 use Rattle.cil_avc.specs.declared.key.Key.{Key}
 use Rattle.cil_avc.specs.contracts.key.KeyPartialEq.TheImpl as key
 

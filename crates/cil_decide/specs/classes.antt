@@ -1,4 +1,3 @@
 -- What crates above take of cil_classes.
 pub use Rattle.cil_tables.specs.classes.Class
 pub use Rattle.cil_tables.specs.classes.ClassId
-pub use Rattle.cil_tables.specs.classes.ClassIdPartialEq

@@ -1,3 +1,2 @@
 -- What crates above take of cil_constraints.
-pub use Rattle.cil_tables.specs.constraints_crate.ContextPartialEq
 pub use Rattle.cil_tables.specs.constraints_crate.Context

@@ -1,5 +1,3 @@
 -- What crates above take of cil_mls.
-pub use Rattle.cil_tables.specs.mls.CategoriesPartialEq
-pub use Rattle.cil_tables.specs.mls.LevelPartialEq
 pub use Rattle.cil_tables.specs.mls.Categories
 pub use Rattle.cil_tables.specs.mls.Level

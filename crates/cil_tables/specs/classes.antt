@@ -1,5 +1,4 @@
 -- What crates above take of cil_classes.
 pub use Rattle.cil_classes.specs.Row
-pub use Rattle.cil_classes.specs.contracts.row.ClassIdPartialEq
 pub use Rattle.cil_classes.specs.declared.row.Class
 pub use Rattle.cil_classes.specs.declared.row.ClassId
